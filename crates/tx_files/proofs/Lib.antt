@@ -3,3 +3,4 @@ mod LeftGroups
 mod LeftTexts
 mod Texts
 mod RevisedText
+pub mod StoppedTexts

@@ -4,6 +4,7 @@ use Rattle.tx_text.specs.declared.frame.FaultAt.{FaultAt}
 use Rattle.tx_text.specs.Ends.{Input}
 use Rattle.tx_plan.specs.declared.ids.Pair.{Pair}
 use Rattle.tx_plan.specs.Plan.{Plan}
+use Rattle.tx_join.specs.declared.joining.Joined.{Joined}
 use Rattle.tx_order.specs.declared.done.DoneWord.{DoneWord}
 use Rattle.tx_order.specs.declared.switching.Switching.{Switching}
 use Rattle.tx_order.specs.declared.switching.Switching.TheVariants.{Ordered, NoOrder}
@@ -56,16 +57,16 @@ module _ {A : Type 0} where
       × StopsBy s named text begun result)
 
   -- the plan to which the order leads from there, over the joined network
-  abbrev pub target_of : (back : Bool) → TwoPlans A → Plan
-  target_of true t = t.joined.old
-  target_of false t = t.joined.new
+  abbrev pub target_of : (back : Bool) → Joined A → Plan
+  target_of true j = j.old
+  target_of false j = j.new
 
   -- the plan where the order was stopped, and the one to which it leads from there
   pub record IsResumed (s : Stopped) (named : Bool) (t : TwoPlans A) (text : Input) (l : TwoPlans A)
       : Type 0 where
     pub stops : StopsAt t.joined.old t.joined.new s named text (Ok l.old.plan)
     pub old_text : l.old.text ≡ t.old.text
-    pub new : l.new ≡ record t.new { plan = target_of s.back t }
+    pub new : l.new ≡ record t.new { plan = target_of s.back t.joined }
     pub joined : IsJoin l.old.plan l.new.plan l.joined
 
   abbrev pub Resumes : Stopped → (named : Bool) → TwoPlans A → Input

@@ -1,10 +1,10 @@
 // The two plans of an order that leads on or back from where another one was stopped.
-ghost use Rattle.std.specs.Prelude.{IfOk};
+ghost use Rattle.std.specs.Prelude.{◌≡◌, IfOk};
 ghost use Rattle.tx_text.specs.Calls.{CallsAtMost, source_calls};
 ghost use Rattle.tx_text.specs.Ends.{input};
 ghost use Rattle.tx_plan.specs.Mixtures.{SameNetwork};
 ghost use Rattle.tx_plan.specs.Rules.{IsPlan};
-ghost use Rattle.tx_files.specs.Stopped.{StopsIn, StopsAt, Resumes, ReadsStopped};
+ghost use Rattle.tx_files.specs.Stopped.{StopsIn, StopsAt, target_of, Resumes, ReadsStopped};
 ghost use Rattle.tx_files.specs.TwoPlans.{AreJoined};
 
 use crate::fault::CommandFault;
@@ -57,8 +57,7 @@ fn resume<A: Allocator + Copy, R: Source>(
     ensures calls { CallsAtMost R.called source_calls done.old done.new }
 {
     let TwoPlans { old, new, joined } = texts;
-    let again = joined_of(alloc, &old, &new)?;
-    let target = if stopped.back { again.old } else { again.new };
+    let target = target_of(joined_of(alloc, &old, &new)?, stopped.back);
     let plan = plan_where(alloc, stopped, named, joined, done)?;
     let old = PlanText {
         text: old.text,
@@ -70,6 +69,13 @@ fn resume<A: Allocator + Copy, R: Source>(
     };
     let joined = joined_of(alloc, &old, &new)?;
     Ok(TwoPlans { old, new, joined })
+}
+
+/// The plan to which an order leads from where one was stopped.
+fn target_of<A: Allocator>(joined: Joined<A>, back: bool) -> Plan<A>
+    ensures { result ≡ target_of back joined }
+{
+    if back { joined.old } else { joined.new }
 }
 
 /// The plan where an order between two plans of one network was stopped.

@@ -4,7 +4,7 @@ ghost use Rattle.std.specs.Result.{result_map_both};
 ghost use Rattle.tx_text.specs.Calls.{CallsAtMost, source_calls};
 ghost use Rattle.tx_text.specs.Ends.{input};
 ghost use Rattle.tx_text.specs.Said.{told_fault};
-ghost use Rattle.tx_order.specs.DoneText.{switches, pair_said, word_row, fault_row, ReadsDone};
+ghost use Rattle.tx_order.specs.DoneText.{switches, pair_if, pair_said, word_row, fault_row, ReadsDone};
 ghost use Rattle.tx_order.specs.declared.done.DoneWord.TheVariants.{NoMemory as OutOfMemory};
 
 use crate::orders::Order;
@@ -76,10 +76,23 @@ fn pair_said<A: Allocator>(
 ) -> Result<Pair, DoneWord>
     ensures { result ≡ pair_said order.now stage words.entry }
 {
-    let Some((exchange, code)) = words.two() else {
-        return Err(DoneWord::WrongCount);
-    };
-    match order.old_plan().pair_named(exchange, code) {
+    match words.two() {
+        Some((exchange, code)) => {
+            pair_if(order, stage, order.old_plan().pair_named(exchange, code))
+        }
+        None => Err(DoneWord::WrongCount),
+    }
+}
+
+/// A pair that has a name, if the stages up to this one switch it.
+fn pair_if<A: Allocator>(
+    order: &Order<A>,
+    stage: usize,
+    pair: Option<Pair>,
+) -> Result<Pair, DoneWord>
+    ensures { result ≡ pair_if order.now stage pair }
+{
+    match pair {
         Some(pair) if switches(order, stage, pair) => Ok(pair),
         Some(_) => Err(DoneWord::NotSwitched),
         None => Err(DoneWord::UnknownName),

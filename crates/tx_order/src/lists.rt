@@ -11,6 +11,16 @@ use tx_change::{Lists, Mixing, mixed_lists};
 use tx_plan::{CodeId, ExchangeId, Pair};
 use tx_text::NoMemory;
 
+/// How many stages are done for an exchange and a code, where one is stopped.
+fn stages_done(done: Option<&[Pair]>, stage: usize, exchange: ExchangeId, code: CodeId) -> usize
+    ensures { result ≡ stages_done (option_map (λ d. d.now) done) stage exchange code }
+{
+    match done {
+        Some(pairs) if !pairs.contains(&Pair { exchange, code }) => stage.saturating_sub(1),
+        _ => stage,
+    }
+}
+
 /// The plan where a stage is stopped, as a mixture of the old plan and the new one: of the stage
 /// these pairs are done, or all of it.
 #[derive(Drop)]
@@ -27,13 +37,8 @@ impl<'a, A: Allocator> Stopped<'a, A> {
             (stages_done (option_map (λ d. d.now) self.now.done) self.now.stage exchange code)
             code }
     {
-        let stage = match self.done {
-            Some(pairs) if !pairs.contains(&Pair { exchange, code }) => {
-                self.stage.saturating_sub(1)
-            }
-            _ => self.stage,
-        };
-        self.order.front(stage, code)
+        let stages = stages_done(self.done, self.stage, exchange, code);
+        self.order.front(stages, code)
     }
 }
 
