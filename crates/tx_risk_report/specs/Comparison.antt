@@ -44,7 +44,7 @@ module _ {A : Type 0} where
   module _ (c : Comparison A) where
     -- whom an outage cuts off in one of the plans
     abbrev pub cuts_of : Side A → Outage → List (Cut A)
-    cuts_of side o = cuts_in c.network.now (length c.risks.now) side o
+    cuts_of side o = cuts_in c.network.now c.risks.now side o
 
     -- somebody is worse off in the new plan
     abbrev pub is_worse : Outage → Bool
