@@ -8,7 +8,9 @@ use Rattle.sha2.specs.Sha256.{sha256}
 use Rattle.tx_text.specs.Words.{before}
 use Rattle.tx_plan.specs.Codes.{is_prefix}
 use Rattle.tx_plan.specs.Plan.{Plan}
+use Rattle.tx_cert.specs.Certificate.{ranks_of}
 use Rattle.tx_rank.specs.declared.ranking.Ranking.{Ranking}
+use Rattle.tx_rank.specs.Grades.{AreRanksOfGrades}
 use Rattle.tx_audit.specs.Audits.{IsRightRanking}
 use Rattle.tx_join.specs.Joined.{joined_old, joined_new}
 use Rattle.tx_order.specs.Switchings.{IsRightSwitching}
@@ -74,11 +76,13 @@ module _ {A : Type 0} where
   shown_codes r t ranking change =
       filter (is_shown r t ranking change) (range_with_len 0 (length t.plan.plan.codes))
 
-  -- what is found of a plan is right: the verdict of the audit, the grade, and what outages cut off
+  -- what is found of a plan is right: the verdict of the audit, the grade, the ranks of each code
+  -- that has one, and what outages cut off
   pub record IsFound (p : Plan) (limit spare : ℕ) (risks : List NamedRisk) (f : Found A)
       : Type 0 where
     pub ranking : IsRightRanking p limit spare f.ranking
     pub grade : IsGradeOf p f.grade
+    pub heights : AreRanksOfGrades p (ranks_of f.grade.ranks) f.grade.codes.items
     pub outcomes : IfSome f.grade.plan (λ _. AreOutcomes p risks false f.outcomes.items)
     pub none : f.grade.plan ≡ None → f.outcomes.items ≡ []
 

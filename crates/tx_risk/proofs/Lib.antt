@@ -16,5 +16,6 @@ pub mod Rows
 pub mod GroupWords
 pub mod RiskLines
 pub mod Comparing
+pub mod Places
 pub mod RisksIn
 pub mod Common

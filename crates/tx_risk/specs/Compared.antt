@@ -1,5 +1,5 @@
 -- What outages cut off in one of two plans, beside the other one.
-use Rattle.std.specs.Prelude.{◌≡◌, ◌⊎◌, ◌<◌, ℕ, ◌+◌, if◌then◌else◌, Bool, true, not, ◌&&◌, ◌==◌, List, [], length, Option, None, Some, option_map, slice_get}
+use Rattle.std.specs.Prelude.{◌≡◌, ◌⊎◌, ◌<◌, ℕ, if◌then◌else◌, Bool, true, false, not, ◌&&◌, ◌==◌, List, [], Option, None, Some, option_map, position, slice_get}
 use Rattle.std.specs.List.{find, list_any}
 use Rattle.std.specs.Option.{option_map_or, option_and_then}
 use Rattle.tx_plan.specs.Plan.{Plan, exchange_name, exchange_named, figures_of, code_named, group_name, group_named}
@@ -9,33 +9,46 @@ use Rattle.tx_risk.specs.declared.outage.Outage.TheVariants.{Group, Exchange, Na
 use Rattle.tx_risk.specs.declared.cut.Cut.{Cut}
 use Rattle.tx_risk.specs.declared.cut.Leg.{Leg}
 use Rattle.tx_risk.specs.declared.cut.Outcome.{Outcome}
-use Rattle.tx_risk.specs.Outages.{start_at}
+use Rattle.tx_risk.specs.NamedRisks.{NamedRisk}
+use Rattle.tx_risk.specs.Outages.{all_outages, start_at}
 
 -- one of the two plans, and what its outages come to
 pub record Side (A : Type 0) : Type 0 where
   pub plan : Plan
   pub outcomes : List (Outcome A)
 
--- The place among all outages of the plan p of the one that has the name of an outage of the plan q,
--- where both have n named risks; none, if p has no such group or exchange
-abbrev pub place_in : (q p : Plan) → (n : ℕ) → Outage → Option ℕ
-place_in q p n (Named i) = Some i
-place_in q p n (Group g) = option_map (λ h. n + h) (group_named p (group_name q g))
-place_in q p n (Exchange x) =
-    option_map (λ y. n + length p.groups + y) (exchange_named p (exchange_name q x))
+-- the outage of the plan p that has the name of one of the plan q; none, if p has no such group or
+-- exchange
+abbrev pub outage_in : (q p : Plan) → Outage → Option Outage
+outage_in q p (Named i) = Some (Named i)
+outage_in q p (Group g) = option_map Group (group_named p (group_name q g))
+outage_in q p (Exchange x) = option_map Exchange (exchange_named p (exchange_name q x))
+
+-- two outages are the same
+abbrev pub is_outage : Outage → Outage → Bool
+is_outage (Named i) (Named j) = i == j
+is_outage (Group g) (Group h) = g == h
+is_outage (Exchange x) (Exchange y) = x == y
+is_outage o r = false
+
+-- the place of the one that has the name, among all outages of p with these risks
+abbrev pub place_in : (q p : Plan) → List NamedRisk → Outage → Option ℕ
+place_in q p risks o = option_and_then
+    (λ r. position (is_outage r) (all_outages p risks false)) (outage_in q p o)
 
 module _ {A : Type 0} where
   -- what an outage of the plan q comes to on one side: nothing, where its plan does not have it
-  abbrev pub outcome_in : (q : Plan) → (n : ℕ) → Side A → Outage → Option (Outcome A)
-  outcome_in q n side o = option_and_then (slice_get side.outcomes) (place_in q side.plan n o)
+  abbrev pub outcome_in : (q : Plan) → List NamedRisk → Side A → Outage → Option (Outcome A)
+  outcome_in q risks side o =
+      option_and_then (slice_get side.outcomes) (place_in q side.plan risks o)
 
   -- whom it cuts off
-  abbrev pub cuts_in : (q : Plan) → (n : ℕ) → Side A → Outage → List Cut
-  cuts_in q n side o = option_map_or (λ t. t.cuts.items) (outcome_in q n side o) []
+  abbrev pub cuts_in : (q : Plan) → List NamedRisk → Side A → Outage → List Cut
+  cuts_in q risks side o = option_map_or (λ t. t.cuts.items) (outcome_in q risks side o) []
 
   -- the legs of their walks
-  abbrev pub legs_in : (q : Plan) → (n : ℕ) → Side A → Outage → List Leg
-  legs_in q n side o = option_map_or (λ t. t.legs.items) (outcome_in q n side o) []
+  abbrev pub legs_in : (q : Plan) → List NamedRisk → Side A → Outage → List Leg
+  legs_in q risks side o = option_map_or (λ t. t.legs.items) (outcome_in q risks side o) []
 
 -- cuts stand in order of codes, and then of where calls start
 abbrev pub AreInOrder : List Cut → Type 0

@@ -1,5 +1,5 @@
 // What outages cut off in one of two plans, beside the other one.
-ghost use Rattle.std.specs.Prelude.{◌≡◌, length};
+ghost use Rattle.std.specs.Prelude.{◌≡◌};
 ghost use Rattle.std.specs.List.{AllByRecursion};
 ghost use Rattle.tx_risk.specs.Compared.{AreInOrder, place_in, cuts_in, legs_in, stray_at, stray_named, stray_in, is_worse_than, is_other_than, has_worse};
 ghost use Rattle.tx_risk.specs.inner.InOrder.{comes_before, stray_of};
@@ -47,11 +47,12 @@ impl<'a, A: Allocator> Side<'a, A> {
 
     /// The place here of an outage of a network, by its name.
     fn place(&self, network: &Plan<A>, risks: &Risks<A>, outage: &Outage) -> Option<usize>
-        ensures { result ≡ place_in network.now self.now.plan (length risks.now) outage.now }
+        ensures { result ≡ place_in network.now self.now.plan risks.now outage.now }
     {
         let named = risks.len();
         match outage {
-            Outage::Named(index) => Some(*index),
+            Outage::Named(index) if *index < named => Some(*index),
+            Outage::Named(_) => None,
             Outage::Group(group) => {
                 let group = self.plan.group_named(network.group_name(*group))?;
                 Some(named + group.index())
@@ -65,7 +66,7 @@ impl<'a, A: Allocator> Side<'a, A> {
 
     /// Whom an outage of a network cuts off here: nobody, if the plan does not have it.
     pub fn cuts(&self, network: &Plan<A>, risks: &Risks<A>, outage: &Outage) -> &[Cut]
-        ensures cuts { result.now ≡ cuts_in network.now (length risks.now) self.now outage.now }
+        ensures cuts { result.now ≡ cuts_in network.now risks.now self.now outage.now }
         ensures order { AreInOrder result.now }
     {
         let Some(place) = self.place(network, risks, outage) else {
@@ -79,7 +80,7 @@ impl<'a, A: Allocator> Side<'a, A> {
 
     /// The legs of their walks.
     pub fn legs(&self, network: &Plan<A>, risks: &Risks<A>, outage: &Outage) -> &[Leg]
-        ensures { result.now ≡ legs_in network.now (length risks.now) self.now outage.now }
+        ensures { result.now ≡ legs_in network.now risks.now self.now outage.now }
     {
         let Some(place) = self.place(network, risks, outage) else {
             return &[];

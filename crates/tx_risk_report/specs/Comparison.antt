@@ -45,11 +45,11 @@ module _ {A : Type 0} where
   module _ (c : Comparison A) where
     -- whom an outage cuts off in one of the plans
     abbrev pub cuts_of : Side A → Outage → List Cut
-    cuts_of side o = cuts_in c.network.now (length c.risks.now) side o
+    cuts_of side o = cuts_in c.network.now c.risks.now side o
 
     -- the legs of their walks
     abbrev pub legs_of : Side A → Outage → List Leg
-    legs_of side o = legs_in c.network.now (length c.risks.now) side o
+    legs_of side o = legs_in c.network.now c.risks.now side o
 
     -- somebody is worse off in the new plan
     abbrev pub is_worse : Outage → Bool
