@@ -10,7 +10,7 @@ use Rattle.std.proofs.lemmas.List.Sums.{sum_by-cons, sum_by_push}
 use Rattle.std.proofs.lemmas.Slice.Eq.{bytes_eq-Decides}
 use Rattle.indexmap.specs.IndexMap.{insert_entry}
 use Rattle.tx_lint.specs.Gathered.{Told, cause_in, count_at, gathered_by, name_left, name_needed, noted}
-use Rattle.tx_lint.specs.Laws.{is_named, misses, comes_of, told_after, LosesNone, NoFaultIsLost}
+use Rattle.tx_lint.specs.Laws.{is_named, misses, comes_of, told_after, NoFaultIsLost}
 
 -- MISSING NAMES
 

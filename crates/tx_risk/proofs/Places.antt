@@ -1,5 +1,5 @@
 -- Where an outage stands among all outages of a plan.
-use Rattle.tx_risk.proofs.Common.{◌≡◌, ℕ, zero, suc, ◌+◌, ◌<◌, ◌≤◌, Bool, true, false, List, [], ◌++◌, length, length-append, append-nil, map, Some, None, refl, sym, ap, subst, ◌∙◌, arith, eq-eqb, ne_eqb, range_with_len, Plan, group_name, group_named, NamedRisk, Outage, Exchange, Group, Named}
+use Rattle.tx_risk.proofs.Common.{◌≡◌, ℕ, zero, suc, ◌+◌, ◌<◌, ◌≤◌, Bool, true, false, List, [], ◌++◌, length, length-append, append-nil, map, Some, None, refl, sym, ap, ◌∙◌, arith, eq-eqb, ne_eqb, range_with_len, Plan, group_name, group_named, NamedRisk, Outage, Exchange, Group, Named}
 use Rattle.std.specs.Prelude.{position, ◌==◌}
 use Rattle.std.proofs.lemmas.Bool.{le-ltb, lt-ltb}
 use Rattle.std.proofs.lemmas.List.FromFn.{length-map-range_with_len}

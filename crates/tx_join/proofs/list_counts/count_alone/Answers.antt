@@ -1,4 +1,4 @@
-use Rattle.tx_join.proofs.Common.{◌<◌, ◌≤◌, false, not, length, length-append, filter, ap, sym, ◌∙◌, ◌∷◌, [], arith, take_all, take, entry_at, option_map_or, Route, has_both}
+use Rattle.tx_join.proofs.Common.{◌<◌, false, not, length, length-append, filter, ap, sym, ◌∙◌, ◌∷◌, [], arith, take_all, take, entry_at, option_map_or, Route, has_both}
 use Rattle.tx_join.proofs.Found.{kept_next, left_next}
 use Rattle.tx_join.proofs.list_counts.count_alone.Goals as goal
 use Rattle.tx_join.proofs.list_counts.count_alone.Goals.{then-is_alone_at, else-is_alone_at}
