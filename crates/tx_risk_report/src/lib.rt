@@ -1,5 +1,5 @@
 //! The report of outages, and events that show whom a risk cuts off.
-#![tactic(auto)]
+#![tactic(auto, using(crate::proofs::Texts::putting))]
 
 mod comparison;
 mod cut_lines;
