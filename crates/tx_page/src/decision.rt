@@ -1,5 +1,5 @@
 // The first sheet of the page of a change.
-ghost use Rattle.std.specs.Prelude.{◌≡◌, [], ◌∷◌};
+ghost use Rattle.std.specs.Prelude.{◌≡◌, [], ◌∷◌, option_map};
 ghost use Rattle.hex.specs.Hex.{encode_lower};
 ghost use Rattle.tx_html.specs.Shows.{Sets};
 ghost use Rattle.tx_page.specs.Decision.{circuits_in, sizes_texts, measures_texts, summary_texts, date_texts, worst_texts, both_worst_texts, is_worse_in, compared_texts, sources_texts, decision_texts};
@@ -12,7 +12,6 @@ use crate::heading::{
 };
 use crate::numbers::{Numbers, are_worse, numbers_of};
 use crate::outages::{kind_of, name_of};
-use crate::outlook::Outlook;
 use crate::rows::{is_any, write_label, write_measure, write_outcomes, write_pair};
 use crate::subject::Subject;
 use crate::way::{has_way, write_way};
@@ -20,7 +19,7 @@ use crate::worst::worst_of;
 use std::alloc::Allocator;
 use tx_html::{PageSink, Part, set};
 use tx_plan::Plan;
-use tx_risk::Risks;
+use tx_risk::{Outcome, Risks};
 
 const TABLE: &str = "<div class=\"t d\"><table><thead><tr><th scope=\"col\">The plans</th><th \
 scope=\"col\" class=\"k\">Before</th><th scope=\"col\" class=\"k\">After</th><th \
@@ -171,8 +170,8 @@ fn write_both_worst<A: Allocator, W: PageSink>(
         (both_worst_texts risks.now change.now.old change.now.new) }
 {
     write_label("The worst outage", sink);
-    write_worst(risks, &change.old, old.lines, sink);
-    write_worst(risks, &change.new, new.lines, sink);
+    write_worst(change.old.plan, risks, worst_of(&change.old, old.lines), sink);
+    write_worst(change.new.plan, risks, worst_of(&change.new, new.lines), sink);
     set(&[Part::Own("<td></td></tr>")], sink);
     write_measure(
         "Lines that it cuts off from some code",
@@ -183,29 +182,33 @@ fn write_both_worst<A: Allocator, W: PageSink>(
     );
 }
 
-/// Writes the worst outage of a plan.
-fn write_worst<A: Allocator, W: PageSink>(
-    risks: &Risks<A>,
-    outlook: &Outlook<'_, A>,
-    lines: Option<u64>,
+/// Writes the worst outage of a plan, or that there is none.
+fn write_worst<'a, A: Allocator, W: PageSink>(
+    plan: &'a Plan<A>,
+    risks: &'a Risks<A>,
+    worst: Option<&'a Outcome<A>>,
     sink: &mut W,
 )
-    requires { lines ≡ (numbers_of outlook.now).lines }
-    ensures { Sets W.seen sink.old sink.new (worst_texts risks.now outlook.now) }
+    ensures { Sets W.seen sink.old sink.new
+        (worst_texts plan.now risks.now (option_map (λ o. o.now) worst.entry)) }
 {
-    match worst_of(outlook, lines) {
+    match worst {
         Some(outcome) => set(
             &[
-                Part::Own("<td>"),
+                Part::Own("<td class=\"k\">"),
                 Part::Text(kind_of(&outcome.outage)),
                 Part::Own(" "),
-                Part::Text(name_of(outlook.plan, risks, &outcome.outage)),
+                Part::Text(name_of(plan, risks, &outcome.outage)),
                 Part::Own("</td>"),
             ],
             sink,
         ),
         None => set(
-            &[Part::Own("<td>"), Part::Text(b"none"), Part::Own("</td>")],
+            &[
+                Part::Own("<td class=\"k\">"),
+                Part::Text(b"none"),
+                Part::Own("</td>"),
+            ],
             sink,
         ),
     }
