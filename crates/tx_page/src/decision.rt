@@ -36,7 +36,7 @@ pub fn write_decision<A: Allocator, W: PageSink>(
     ensures { Sets W.seen sink.old sink.new (decision_texts subject.now change.now safe) }
 {
     let (old, new) = (numbers_of(&change.old), numbers_of(&change.new));
-    let worse = are_worse(old, new) || is_any(change.worse);
+    let worse = is_worse_in(change, old, new);
     write_start(subject.name, safe, sink);
     write_replaced(change.name, sink);
     write_warning(count_lines(subject.plan), sink);
@@ -50,6 +50,15 @@ pub fn write_decision<A: Allocator, W: PageSink>(
     write_summary(worse, sink);
     write_compared(subject.risks, change, old, new, safe, sink);
     write_sources(subject, change, sink);
+}
+
+/// Whether something is worse than in the old plan.
+fn is_worse_in<A: Allocator>(change: &Change<'_, A>, old: Numbers, new: Numbers) -> bool
+    requires old { old ≡ numbers_of change.now.old }
+    requires new { new ≡ numbers_of change.now.new }
+    ensures { result ≡ is_worse_in change.now }
+{
+    are_worse(old, new) || is_any(change.worse)
 }
 
 /// How the verdict looks: as one to agree to only if all is well.
@@ -170,8 +179,18 @@ fn write_both_worst<A: Allocator, W: PageSink>(
         (both_worst_texts risks.now change.now.old change.now.new) }
 {
     write_label("The worst outage", sink);
-    write_worst(change.old.plan, risks, worst_of(&change.old, old.lines), sink);
-    write_worst(change.new.plan, risks, worst_of(&change.new, new.lines), sink);
+    write_worst(
+        change.old.plan,
+        risks,
+        worst_of(&change.old, old.lines),
+        sink,
+    );
+    write_worst(
+        change.new.plan,
+        risks,
+        worst_of(&change.new, new.lines),
+        sink,
+    );
     set(&[Part::Own("<td></td></tr>")], sink);
     write_measure(
         "Lines that it cuts off from some code",
@@ -239,11 +258,13 @@ fn write_sources<A: Allocator, W: PageSink>(
 fn write_date<W: PageSink>(date: Option<[u8; 29]>, sink: &mut W)
     ensures { Sets W.seen sink.old sink.new (date_texts date) }
 {
-    set(&[Part::Own("</code><br>judged ")], sink);
     match date {
-        Some(date) => set(&[Part::Text(&date)], sink),
+        Some(date) => set(&[Part::Own("</code><br>judged "), Part::Text(&date)], sink),
         None => set(
-            &[Part::Own("at a time that is "), Part::Text(b"unknown")],
+            &[
+                Part::Own("</code><br>judged at a time that is "),
+                Part::Text(b"unknown"),
+            ],
             sink,
         ),
     }
