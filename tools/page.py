@@ -201,6 +201,7 @@ def decision_of(text):
     if '<div class="t d">' not in text:
         return []
     first = text[text.index("<h1>"):text.index("<h2")]
+    first = re.sub("</?(?:b|strong|code)>", "", first)
     return html.unescape(re.sub("<[^>]*>", " ", first)).replace("\u202f", " ").split()
 
 

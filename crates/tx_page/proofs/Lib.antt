@@ -1,4 +1,5 @@
 pub mod StepsOfWalks
 pub mod AloneIn
+pub mod AnyBelow
 pub mod Common
 pub mod Texts

@@ -2,7 +2,6 @@
 -- to, and the way from the one to the other.
 use Rattle.std.specs.Prelude.{ℕ, ◌+◌, Bool, true, false, not, ◌||◌, nat_lt, if◌then◌else◌, List, [], ◌∷◌, ◌++◌, length, Option, None, Some, codes, count_by, sum_by}
 use Rattle.std.specs.List.{range_with_len}
-use Rattle.std.specs.Option.{option_map_or}
 use Rattle.std.specs.Str.{bytes_eq}
 use Rattle.hex.specs.Hex.{encode_lower}
 use Rattle.tx_html.specs.Amounts.{amount}
@@ -13,6 +12,7 @@ use Rattle.tx_order.specs.Ordered.{Order, plan_before, stages_in}
 use Rattle.tx_order.specs.declared.switching.Switching.{Switching}
 use Rattle.tx_order.specs.declared.switching.Switching.TheVariants.{Ordered, NoOrder}
 use Rattle.tx_risk.specs.NamedRisks.{NamedRisk}
+use Rattle.tx_risk.specs.declared.cut.Outcome.{Outcome}
 use Rattle.tx_svg.specs.Indexed.{texts_below}
 use Rattle.tx_page.specs.declared.change.Change.{Change}
 use Rattle.tx_page.specs.declared.numbers.Numbers.{Numbers}
@@ -117,14 +117,14 @@ date_texts (Some date) = date ∷ []
 
 module _ {A : Type 0} where
   -- the worst outage of a plan, or that there is none
-  abbrev pub worst_texts : List NamedRisk → Outlook A → List (List ℕ)
-  worst_texts risks o = option_map_or
-      (λ t. outage_kind t.outage ∷ outage_name o.plan.now risks t.outage ∷ [])
-      (worst_of o) (codes "none" ∷ [])
+  abbrev pub worst_texts : Plan → List NamedRisk → Option (Outcome A) → List (List ℕ)
+  worst_texts p risks None = codes "none" ∷ []
+  worst_texts p risks (Some o) = outage_kind o.outage ∷ outage_name p risks o.outage ∷ []
 
   -- that of both, with the lines that it cuts off
   abbrev pub both_worst_texts : List NamedRisk → (old new : Outlook A) → List (List ℕ)
-  both_worst_texts risks old new = worst_texts risks old ++ (worst_texts risks new
+  both_worst_texts risks old new = worst_texts old.plan.now risks (worst_of old)
+      ++ (worst_texts new.plan.now risks (worst_of new)
       ++ measure_texts true (numbers_of old).lines (numbers_of new).lines)
 
   -- something is worse than in the old plan

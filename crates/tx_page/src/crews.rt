@@ -1,9 +1,11 @@
 // The work at each exchange.
-ghost use Rattle.std.specs.Prelude.{◌≡◌, length};
+ghost use Rattle.std.specs.Prelude.{◌≡◌, ◌∷◌, ◌++◌, length};
 ghost use Rattle.tx_html.specs.Shows.{Sets};
 ghost use Rattle.tx_order.specs.Ordered.{stages_in};
+ghost use Rattle.tx_plan.specs.Plan.{exchange_name};
 ghost use Rattle.tx_svg.specs.Indexed.{texts_below};
-ghost use Rattle.tx_page.specs.CrewTexts.{has_work, work_texts, named_work_texts, stage_work_texts, switched_work_texts, crew_texts, crews_texts};
+ghost use Rattle.tx_page.specs.ChangeTexts.{exchange_texts};
+ghost use Rattle.tx_page.specs.CrewTexts.{has_work_for, has_work, work_texts, named_work_texts, stage_work_texts, switched_work_texts, crew_texts, crews_texts};
 ghost use Rattle.tx_page.specs.inner.Between.{before_of, after_of, title_of, IsThere};
 
 use crate::between::{Between, entry_of};
@@ -15,20 +17,28 @@ use tx_html::{PageSink, Part, set};
 use tx_order::{Order, Switching};
 use tx_plan::{CodeId, ExchangeId, Plan};
 
-/// Whether an exchange has another list or bar for some code.
+/// Whether an exchange has another list or bar for a code.
+fn has_work_for<A: Allocator>(between: &Between<'_, A>, exchange: ExchangeId, code: CodeId) -> bool
+    requires { IsThere between.now }
+    ensures { result ≡ has_work_for (before_of between.now) (after_of between.now) exchange code }
+{
+    is_switched(&entry_of(between, exchange, code))
+}
+
+/// Whether it has for some code.
 fn has_work<A: Allocator>(plan: &Plan<A>, between: &Between<'_, A>, exchange: ExchangeId) -> bool
     requires { IsThere between.now }
     ensures { result ≡ has_work plan.now (before_of between.now) (after_of between.now) exchange }
 {
     for index in 0..plan.codes() {
-        if is_switched(&entry_of(between, exchange, CodeId::of(index))) {
+        if has_work_for(between, exchange, CodeId::of(index)) {
             return true;
         }
     }
     false
 }
 
-/// Writes what is done at an exchange, if something is, in a table of its own.
+/// Writes what is done at an exchange, if something is.
 fn write_work<A: Allocator, W: PageSink>(
     plan: &Plan<A>,
     between: &Between<'_, A>,
@@ -39,9 +49,23 @@ fn write_work<A: Allocator, W: PageSink>(
     ensures { Sets W.seen sink.old sink.new (work_texts (title_of between.now) plan.now
         (before_of between.now) (after_of between.now) exchange) }
 {
-    if !has_work(plan, between, exchange) {
-        return;
+    if has_work(plan, between, exchange) {
+        write_done(plan, between, exchange, sink);
     }
+}
+
+/// Writes what is done at an exchange, in a table of its own.
+fn write_done<A: Allocator, W: PageSink>(
+    plan: &Plan<A>,
+    between: &Between<'_, A>,
+    exchange: ExchangeId,
+    sink: &mut W,
+)
+    requires { IsThere between.now }
+    ensures { Sets W.seen sink.old sink.new (title_of between.now
+        ++ (exchange_name plan.now exchange ∷ exchange_texts plan.now (before_of between.now)
+        (after_of between.now) exchange)) }
+{
     write_title(between, sink);
     set(
         &[Part::Own(", "), Part::Text(plan.exchange_name(exchange))],

@@ -1,5 +1,5 @@
 // The first sheet of the page of a change.
-ghost use Rattle.std.specs.Prelude.{◌≡◌, [], ◌∷◌};
+ghost use Rattle.std.specs.Prelude.{◌≡◌, [], ◌∷◌, option_map};
 ghost use Rattle.hex.specs.Hex.{encode_lower};
 ghost use Rattle.tx_html.specs.Shows.{Sets};
 ghost use Rattle.tx_page.specs.Decision.{circuits_in, sizes_texts, measures_texts, summary_texts, date_texts, worst_texts, both_worst_texts, is_worse_in, compared_texts, sources_texts, decision_texts};
@@ -12,7 +12,6 @@ use crate::heading::{
 };
 use crate::numbers::{Numbers, are_worse, numbers_of};
 use crate::outages::{kind_of, name_of};
-use crate::outlook::Outlook;
 use crate::rows::{is_any, write_label, write_measure, write_outcomes, write_pair};
 use crate::subject::Subject;
 use crate::way::{has_way, write_way};
@@ -20,7 +19,7 @@ use crate::worst::worst_of;
 use std::alloc::Allocator;
 use tx_html::{PageSink, Part, set};
 use tx_plan::Plan;
-use tx_risk::Risks;
+use tx_risk::{Outcome, Risks};
 
 const TABLE: &str = "<div class=\"t d\"><table><thead><tr><th scope=\"col\">The plans</th><th \
 scope=\"col\" class=\"k\">Before</th><th scope=\"col\" class=\"k\">After</th><th \
@@ -37,7 +36,7 @@ pub fn write_decision<A: Allocator, W: PageSink>(
     ensures { Sets W.seen sink.old sink.new (decision_texts subject.now change.now safe) }
 {
     let (old, new) = (numbers_of(&change.old), numbers_of(&change.new));
-    let worse = are_worse(old, new) || is_any(change.worse);
+    let worse = is_worse_in(change, old, new);
     write_start(subject.name, safe, sink);
     write_replaced(change.name, sink);
     write_warning(count_lines(subject.plan), sink);
@@ -51,6 +50,15 @@ pub fn write_decision<A: Allocator, W: PageSink>(
     write_summary(worse, sink);
     write_compared(subject.risks, change, old, new, safe, sink);
     write_sources(subject, change, sink);
+}
+
+/// Whether something is worse than in the old plan.
+fn is_worse_in<A: Allocator>(change: &Change<'_, A>, old: Numbers, new: Numbers) -> bool
+    requires old { old ≡ numbers_of change.now.old }
+    requires new { new ≡ numbers_of change.now.new }
+    ensures { result ≡ is_worse_in change.now }
+{
+    are_worse(old, new) || is_any(change.worse)
 }
 
 /// How the verdict looks: as one to agree to only if all is well.
@@ -171,8 +179,18 @@ fn write_both_worst<A: Allocator, W: PageSink>(
         (both_worst_texts risks.now change.now.old change.now.new) }
 {
     write_label("The worst outage", sink);
-    write_worst(risks, &change.old, old.lines, sink);
-    write_worst(risks, &change.new, new.lines, sink);
+    write_worst(
+        change.old.plan,
+        risks,
+        worst_of(&change.old, old.lines),
+        sink,
+    );
+    write_worst(
+        change.new.plan,
+        risks,
+        worst_of(&change.new, new.lines),
+        sink,
+    );
     set(&[Part::Own("<td></td></tr>")], sink);
     write_measure(
         "Lines that it cuts off from some code",
@@ -183,29 +201,33 @@ fn write_both_worst<A: Allocator, W: PageSink>(
     );
 }
 
-/// Writes the worst outage of a plan.
-fn write_worst<A: Allocator, W: PageSink>(
-    risks: &Risks<A>,
-    outlook: &Outlook<'_, A>,
-    lines: Option<u64>,
+/// Writes the worst outage of a plan, or that there is none.
+fn write_worst<'a, A: Allocator, W: PageSink>(
+    plan: &'a Plan<A>,
+    risks: &'a Risks<A>,
+    worst: Option<&'a Outcome<A>>,
     sink: &mut W,
 )
-    requires { lines ≡ (numbers_of outlook.now).lines }
-    ensures { Sets W.seen sink.old sink.new (worst_texts risks.now outlook.now) }
+    ensures { Sets W.seen sink.old sink.new
+        (worst_texts plan.now risks.now (option_map (λ o. o.now) worst.entry)) }
 {
-    match worst_of(outlook, lines) {
+    match worst {
         Some(outcome) => set(
             &[
-                Part::Own("<td>"),
+                Part::Own("<td class=\"k\">"),
                 Part::Text(kind_of(&outcome.outage)),
                 Part::Own(" "),
-                Part::Text(name_of(outlook.plan, risks, &outcome.outage)),
+                Part::Text(name_of(plan, risks, &outcome.outage)),
                 Part::Own("</td>"),
             ],
             sink,
         ),
         None => set(
-            &[Part::Own("<td>"), Part::Text(b"none"), Part::Own("</td>")],
+            &[
+                Part::Own("<td class=\"k\">"),
+                Part::Text(b"none"),
+                Part::Own("</td>"),
+            ],
             sink,
         ),
     }
@@ -236,11 +258,13 @@ fn write_sources<A: Allocator, W: PageSink>(
 fn write_date<W: PageSink>(date: Option<[u8; 29]>, sink: &mut W)
     ensures { Sets W.seen sink.old sink.new (date_texts date) }
 {
-    set(&[Part::Own("</code><br>judged ")], sink);
     match date {
-        Some(date) => set(&[Part::Text(&date)], sink),
+        Some(date) => set(&[Part::Own("</code><br>judged "), Part::Text(&date)], sink),
         None => set(
-            &[Part::Own("at a time that is "), Part::Text(b"unknown")],
+            &[
+                Part::Own("</code><br>judged at a time that is "),
+                Part::Text(b"unknown"),
+            ],
             sink,
         ),
     }

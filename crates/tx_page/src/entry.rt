@@ -1,5 +1,6 @@
 // A row of a table of what is switched.
-ghost use Rattle.std.specs.Prelude.{◌≡◌, [], ◌∷◌};
+ghost use Rattle.std.specs.Prelude.{◌≡◌, [], ◌∷◌, not};
+ghost use Rattle.std.specs.Str.{bytes_eq};
 ghost use Rattle.tx_html.specs.Shows.{Sets};
 ghost use Rattle.tx_page.specs.ChangeTexts.{bar_word, entry_texts, is_switched, switched_texts};
 
@@ -28,6 +29,13 @@ fn bar_word(was: bool, is: bool) -> &'static [u8]
         (true, false) => b"lifted",
         (false, false) | (true, true) => b"",
     }
+}
+
+/// Whether the list is another one.
+pub(crate) fn is_other_list(entry: &Entry<'_>) -> bool
+    ensures { result ≡ not (bytes_eq entry.now.before.now entry.now.after.now) }
+{
+    entry.before != entry.after
 }
 
 /// Whether the list or the bar is another one.

@@ -1,13 +1,15 @@
 // A table of what is switched.
-ghost use Rattle.std.specs.Prelude.{◌++◌};
+ghost use Rattle.std.specs.Prelude.{◌<◌, ◌++◌};
 ghost use Rattle.tx_html.specs.Shows.{Sets};
-ghost use Rattle.tx_page.specs.ChangeTexts.{exchange_texts, table_texts};
+ghost use Rattle.tx_order.specs.Ordered.{stages_in};
+ghost use Rattle.tx_page.specs.ChangeTexts.{exchange_texts, table_texts, stage_title};
 ghost use Rattle.tx_page.specs.inner.Between.{before_of, after_of, title_of, IsThere};
 
 use crate::between::{Between, entry_of};
 use crate::entry::write_switched;
 use std::alloc::Allocator;
 use tx_html::{PageSink, Part, set};
+use tx_order::Order;
 use tx_plan::{CodeId, ExchangeId, Plan};
 
 const TABLE: &str = "<div class=\"t\"><table><thead><tr><th scope=\"colgroup\" colspan=\"5\"><h3>";
@@ -33,29 +35,50 @@ pub fn write_table<A: Allocator, W: PageSink>(
     set(&[Part::Own("</tbody></table></div>")], sink);
 }
 
+/// What a table is about, but for its numbers.
+fn words_of<A: Allocator>(between: &Between<'_, A>) -> &'static str {
+    match *between {
+        Between::Stage(_, _) => "Stage ",
+        Between::Plans(_, _) => "What differs",
+        Between::New(_, _) => "Before the switching",
+        Between::Gone(_, _) => "After the switching",
+    }
+}
+
 /// Begins a table with its title, in its head.
 pub(crate) fn write_title<A: Allocator, W: PageSink>(between: &Between<'_, A>, sink: &mut W)
     requires { IsThere between.now }
     ensures { Sets W.seen sink.old sink.new (title_of between.now) }
 {
-    set(&[Part::Own(TABLE)], sink);
+    set(&[Part::Own(TABLE), Part::Own(words_of(between))], sink);
+    write_numbers(between, sink);
+}
+
+/// Writes the numbers in its title, if it is of a stage.
+fn write_numbers<A: Allocator, W: PageSink>(between: &Between<'_, A>, sink: &mut W)
+    requires { IsThere between.now }
+    ensures { Sets W.seen sink.old sink.new (title_of between.now) }
+{
     match *between {
-        Between::Stage(order, stage) => {
-            order.rules();
-            set(
-                &[
-                    Part::Own("Stage "),
-                    Part::Count(stage as u64 + 1),
-                    Part::Own(" of "),
-                    Part::Count(order.stages() as u64),
-                ],
-                sink,
-            )
-        }
-        Between::Plans(_, _) => set(&[Part::Own("What differs")], sink),
-        Between::New(_, _) => set(&[Part::Own("Before the switching")], sink),
-        Between::Gone(_, _) => set(&[Part::Own("After the switching")], sink),
+        Between::Stage(order, stage) => write_stage(order, stage, sink),
+        Between::Plans(_, _) | Between::New(_, _) | Between::Gone(_, _) => {}
     }
+}
+
+/// Writes the number of a stage, and how many there are.
+fn write_stage<A: Allocator, W: PageSink>(order: &Order<A>, stage: usize, sink: &mut W)
+    requires { stage < stages_in order.now }
+    ensures { Sets W.seen sink.old sink.new (stage_title order.now stage) }
+{
+    order.rules();
+    set(
+        &[
+            Part::Count(stage as u64 + 1),
+            Part::Own(" of "),
+            Part::Count(order.stages() as u64),
+        ],
+        sink,
+    );
 }
 
 /// Writes what differs at an exchange, in a table that has its title.

@@ -10,6 +10,7 @@ ghost use Rattle.tx_page.specs.inner.Between.{before_of, after_of, IsThere};
 
 use crate::between::{Between, entry_of};
 use crate::change::Change;
+use crate::entry::is_other_list;
 use crate::stages::order_word;
 use std::alloc::Allocator;
 use tx_html::{PageSink, Part, set};
@@ -17,12 +18,15 @@ use tx_order::{Order, Switching};
 use tx_plan::{CodeId, ExchangeId, Plan};
 
 /// Whether an exchange has another list for a code.
-fn is_other_list<A: Allocator>(between: &Between<'_, A>, exchange: ExchangeId, code: CodeId) -> bool
+fn has_other_list<A: Allocator>(
+    between: &Between<'_, A>,
+    exchange: ExchangeId,
+    code: CodeId,
+) -> bool
     requires { IsThere between.now }
     ensures { result ≡ is_other_list (before_of between.now) (after_of between.now) exchange code }
 {
-    let entry = entry_of(between, exchange, code);
-    entry.before != entry.after
+    is_other_list(&entry_of(between, exchange, code))
 }
 
 /// How many lists differ at an exchange.
@@ -39,7 +43,7 @@ fn lists_differing_at<A: Allocator>(
 {
     let mut count: u64 = 0;
     for index in 0..plan.codes() {
-        if is_other_list(between, exchange, CodeId::of(index)) {
+        if has_other_list(between, exchange, CodeId::of(index)) {
             count += 1;
         }
     }

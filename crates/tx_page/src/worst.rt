@@ -86,7 +86,7 @@ fn cuts_off<A: Allocator>(plan: &Plan<A>, lines: u64, outcome: &Outcome<A>) -> b
 
 /// The first outage of a plan that cuts off so many lines, and some.
 fn first_of<'a, A: Allocator>(outlook: &Outlook<'a, A>, lines: u64) -> Option<&'a Outcome<A>>
-    ensures { option_map (λ o. o.now) result.entry
+    ensures { option_map (λ o. o.now) result
         ≡ find (cuts_off outlook.now.plan.now lines) outlook.now.outcomes.now }
 {
     let (plan, outcomes) = (outlook.plan, outlook.outcomes);
@@ -101,7 +101,7 @@ pub(crate) fn worst_of<'a, A: Allocator>(
     lines: Option<u64>,
 ) -> Option<&'a Outcome<A>>
     requires { lines ≡ (numbers_of outlook.now).lines }
-    ensures { option_map (λ o. o.now) result.entry ≡ worst_of outlook.now }
+    ensures { option_map (λ o. o.now) result ≡ worst_of outlook.now }
 {
     match lines {
         Some(lines) => first_of(outlook, lines),
