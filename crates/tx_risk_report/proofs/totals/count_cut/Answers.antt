@@ -2,7 +2,7 @@ use Rattle.tx_risk_report.proofs.Common.{◌∙◌, not, rules, tests, YieldsLis
 use Rattle.tx_risk_report.proofs.totals.count_cut.Goals as goal
 
 pub returns : goal.returns
-returns g c =
+returns c =
     let test = λ (k : Cut). not k.stray in
     count_from_yields_List c.filter.result _ c.count.ensures.ran
     (YieldsList-from_filter _ test (YieldsList-from_slice c.args.cuts.now cc)
