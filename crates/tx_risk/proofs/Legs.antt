@@ -9,17 +9,18 @@ use Rattle.tx_risk.specs.inner.Nearest.{IsWayBy}
 pub steps_more : (legs more : List Leg) (n k : ℕ) → length (steps_from legs n k) ≡ n
     → steps_from (legs ++ more) n k ≡ steps_from legs n k
 steps_more legs more zero k long = refl
-steps_more legs more (suc n) k long = at (slice_get legs k) refl
+steps_more legs more (suc n) k long = at (slice_get legs k) refl (λ j l. steps_more legs more n j l)
   where
     at : (o : Option Leg) → slice_get legs k ≡ o
+        → ((j : ℕ) → length (steps_from legs n j) ≡ n → steps_from (legs ++ more) n j ≡ steps_from legs n j)
         → steps_from (legs ++ more) (suc n) k ≡ steps_from legs (suc n) k
-    at None e = let none = ap (λ o. length (step_then o (steps_from legs n))) (sym e) ∙ long in
+    at None e again = let none = ap (λ o. length (step_then o (steps_from legs n))) (sym e) ∙ long in
         absurd (omega arith)
-    at (Some leg) e =
+    at (Some leg) e again =
         let there = slice_get_left legs more k (slice_get_within legs k leg e) ∙ e in
         let rest = ap (λ o. length (step_then o (steps_from legs n))) (sym e) ∙ long in
         ap (λ o. step_then o (steps_from (legs ++ more) n)) there
-        ∙ ap (λ l. (leg.group, leg.to) ∷ l) (steps_more legs more n leg.next (omega arith))
+        ∙ ap (λ l. (leg.group, leg.to) ∷ l) (again leg.next (omega arith))
         ∙ ap (λ o. step_then o (steps_from legs n)) (sym e)
 
 module _ (n : Net) (legs : List Leg) where
@@ -90,10 +91,15 @@ cut_more n code legs more c k =
 pub cuts_more : (p : Plan) (risk : Risk) (o : Outage) (legs more : List Leg) (c : ℕ) (cuts : List Cut)
     → AreCutsBelow p risk o legs c cuts → AreCutsBelow p risk o (legs ++ more) c cuts
 cuts_more p risk o legs more zero cuts e = e
-cuts_more p risk o legs more (suc c) cuts (front, last, e, a, b) =
-    (front, last, e, cuts_more p risk o legs more c front a, record {
-      each = λ d m. cut_more (net_without p risk c) c legs more d (b.each d m);
-      asked = b.asked;
-      order = b.order;
-      all = b.all;
-    })
+cuts_more p risk o legs more (suc c) cuts (front, last, e, a, b) = (
+  front,
+  last,
+  e,
+  cuts_more p risk o legs more c front a,
+  record {
+    each = λ d m. cut_more (net_without p risk c) c legs more d (b.each d m);
+    asked = b.asked;
+    order = b.order;
+    all = b.all;
+  },
+)

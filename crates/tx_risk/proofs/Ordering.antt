@@ -1,5 +1,5 @@
 -- Ranked exchanges, by their ranks.
-use Rattle.tx_risk.proofs.Common.{◌≡◌, ◌≢◌, ℕ, zero, suc, ◌+◌, ◌<◌, ◌≤◌, nat_lt, true, false, not, List, [], ◌∷◌, inl, inr, length, take, Option, Some, None, refl, sym, ap, ◌∙◌, subst, arith, range_with_len, Among, Net, Goes, end_of, none_any, any_mem, Risk, left_of, without, LeadsHome, IsOrder, IsByRank, rank_or_0, is_above, AreDeadEnds, LeadsToDeadEnd}
+use Rattle.tx_risk.proofs.Common.{◌≡◌, ◌≢◌, ℕ, zero, suc, ◌+◌, ◌<◌, ◌≤◌, nat_lt, Bool, true, false, not, List, [], ◌∷◌, inl, inr, length, take, Option, Some, None, refl, sym, ap, ◌∙◌, subst, arith, range_with_len, Among, Net, Goes, end_of, none_any, any_mem, Risk, left_of, without, LeadsHome, IsOrder, IsByRank, rank_or_0, is_above, AreDeadEnds, LeadsToDeadEnd}
 use Rattle.std.specs.Prelude.{slice_get, slice_index_or, unwrap_or, is_some, filter, IsPermutation}
 use Rattle.std.specs.List.Sorted.{IsNonDecreasingBy, IsPartitionedBy, IsPartitionPoint}
 use Rattle.std.proofs.lemmas.Bool.{cases_lt, cases_eq, false≢true, ltb-true, ltb-false, not-true}
@@ -176,7 +176,7 @@ module _ (n : Net) (net : IsNet n) (ranks : ℕ → Option ℕ) (limit spare : �
   pub by_rank : IsPermutation ranked order → IsNonDecreasingBy (rank_or_0 ranks) order → IsOrder n order
   by_rank p rising = record {
     few =
-        let t = λ x. is_some (ranks x) in
+        let t : ℕ → Bool = λ x. is_some (ranks x) in
         let all = length-filter_both t (λ x. not (t x)) (λ x. refl) (range_with_len 0 n.exchanges) in
         let long = length_permutation ranked order p in
         let range = length-range_with_len 0 n.exchanges in

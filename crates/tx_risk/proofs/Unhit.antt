@@ -1,5 +1,5 @@
 -- A code of which some group of each list is left is cut off from nowhere.
-use Rattle.tx_risk.proofs.Common.{◌≡◌, ◌≢◌, ℕ, ◌+◌, ◌<◌, ◌⊎◌, ◌==◌, true, false, not, ◌&&◌, List, [], ◌∷◌, inl, inr, length, Option, Some, None, refl, sym, ap, ◌∙◌, subst, arith, eq-eqb, and_parts, both_ways, not-true, ne_eqb, eqb-false, cases_eq, slice_get, filter, is_some, if◌then◌else◌, option_and_then, option_map_or, list_any, route_list, is_origin_for, Ranks, IsCertified, Among, filter_among, among_filter, none_any, Goes, end_of, is_net, Outage, Group, Exchange, Named, NamedRisk, risk_of, fails_at, Left, IsLeft, gone, left_net, IsByRank, AreDeadEnds, AreCuts, AreEnds, TakesItsGroups, is_emptied}
+use Rattle.tx_risk.proofs.Common.{◌≡◌, ◌≢◌, ℕ, ◌+◌, ◌<◌, ◌⊎◌, ◌==◌, true, false, not, ◌&&◌, List, [], ◌∷◌, inl, inr, length, Option, Some, None, refl, sym, ap, ◌∙◌, subst, arith, eq-eqb, and_parts, both_ways, not-true, ne_eqb, eqb-false, cases_eq, slice_get, filter, is_some, if◌then◌else◌, option_and_then, option_map_or, list_any, route_list, is_origin_for, Ranks, IsCertified, Among, filter_among, among_filter, none_any, Goes, end_of, is_net, Leg, Outage, Group, Exchange, Named, NamedRisk, risk_of, fails_at, Left, IsLeft, gone, left_net, IsByRank, AreDeadEnds, AreCuts, AreEnds, TakesItsGroups, is_emptied}
 use Rattle.tx_plan.specs.Plan.{Plan, Group as Row, home_of}
 use Rattle.tx_plan.specs.Circuits.{other_end, far_end, ends_of}
 use Rattle.tx_risk.specs.Risks.{Risk, groups_of, left_of, net_without}

@@ -169,10 +169,11 @@ pub fn ways_of<A: Allocator + Copy>(
         if let Some(step) = nearest_step(left, &kept, exchange) {
             let home = has_way_home(left, &kept, exchange);
             let onward = ways_at(&kept, step.to);
+            let first = legs.len() as u32;
             kept[exchange.index()] = Ways {
                 dead_end: Some(step.distance + 1),
                 end: onward.end,
-                first: legs.len() as u32,
+                first,
                 home,
             };
             legs.push(Leg {

@@ -138,12 +138,7 @@ fn stray_named<A: Allocator>(
 }
 
 /// What cuts of another plan are for the code and the start of a cut, by their names.
-fn stray_in<A: Allocator>(
-    plan: &Plan<A>,
-    other: &Plan<A>,
-    cuts: &[Cut],
-    cut: &Cut,
-) -> Option<bool>
+fn stray_in<A: Allocator>(plan: &Plan<A>, other: &Plan<A>, cuts: &[Cut], cut: &Cut) -> Option<bool>
     requires { AreInOrder cuts.now }
     ensures { result ≡ stray_in plan.now other.now cuts.now cut.now }
 {
@@ -164,12 +159,7 @@ fn is_worse<A: Allocator>(plan: &Plan<A>, other: &Plan<A>, cuts: &[Cut], cut: &C
 }
 
 /// Whether a cut is another one than what cuts of another plan are for its start.
-pub fn is_other<A: Allocator>(
-    plan: &Plan<A>,
-    other: &Plan<A>,
-    cuts: &[Cut],
-    cut: &Cut,
-) -> bool
+pub fn is_other<A: Allocator>(plan: &Plan<A>, other: &Plan<A>, cuts: &[Cut], cut: &Cut) -> bool
     requires { AreInOrder cuts.now }
     ensures { result ≡ is_other_than (stray_in plan.now other.now cuts.now cut.now) cut.now }
 {

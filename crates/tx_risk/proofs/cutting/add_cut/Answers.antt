@@ -13,13 +13,13 @@ returns-in_default g c = λ legs all first b.
     before_skip l o legs first c.args.cuts.now.items x b (λ steps a k. none_cut (left_net l) legs x w steps
     (all x (asked_reached l o x a)) none k)
 
-pub returns-in-Some-then-not-is_asked : goal.returns-in-Some-then-not-is_asked
-returns-in-Some-then-not-is_asked g c = λ legs all first b.
+pub returns-then-not-is_asked : goal.returns-then-not-is_asked
+returns-then-not-is_asked g c = λ legs all first b.
     before_skip c.args.left.now c.args.outage.now legs first c.args.cuts.now.items c.args.exchange b
     (λ steps a k. both_ways _ (sym c.is_asked.ensures ∙ c.if-not-is_asked.true) a)
 
-pub returns-in-Some : goal.returns-in-Some
-returns-in-Some g c = λ legs all first b.
+pub returns : goal.returns
+returns g c = λ legs all first b.
     let l = c.args.left.now in
     let o = c.args.outage.now in
     let n = left_net l in

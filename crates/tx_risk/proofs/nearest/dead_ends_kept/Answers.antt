@@ -6,6 +6,7 @@ pub loop-end-init : goal.loop-end-init
 loop-end-init g c =
     marks_first (left_net c.args.left.now) c.in_ok-kept.kept.items
     (c.in_ok-kept.ensures.items_if_clones_equal (λ y e. e)
+    ∙ ap (replicate c.exchanges.result) c.home_alone.ensures
     ∙ ap (λ (k : ℕ). replicate k home_alone) c.exchanges.ensures.count)
 
 pub index_mut-requires : goal.index_mut-requires

@@ -49,6 +49,21 @@ overflow_add-step g c =
     let all = rules.rules.few_exchanges in
     omega arith
 
+pub overflow_cast-first : goal.overflow_cast-first
+overflow_cast-first g c =
+    let l = c.loop-index in
+    let order = c.args.order.now in
+    let x = c.index-order-index.result in
+    let at = got_at order order l.index x refl c.loop-index-test.true c.index-order-index.is in
+    let within = slice_get_within order l.index x at in
+    let few = c.requires.order.few in
+    let all = c.dead_ends_kept.ensures.rules.rules.few_exchanges in
+    let short = l.invariant.short in
+    let room = c.requires.room in
+    let e = c.len-first.ensures in
+    let k = l.legs.ok.0 in
+    omega arith
+
 pub index_mut-requires : goal.index_mut-requires
 index_mut-requires g c =
     let l = c.loop-index in
@@ -89,9 +104,39 @@ loop-index-preserved g c =
           let new = kept_next n legs order ends c.requires.order c.requires.dead_ends kept l.index x at l.invariant.kept
           (away_from left rules kept x step is) step is w.has_way_home-home.result
           (w.has_way_home-home.ensures ∙ ap (λ (k : List Ways). has_way_home n k x) w.deref-in-Some.ensures.value) in
-          ?)
+          let ways_to : Ways → ℕ → Ways = λ u k. record {
+            dead_end = Some (step.distance + 1);
+            end = u.end;
+            first = k;
+            home = w.has_way_home-home.result;
+          } in
+          let place : w.len-first.result ≡ length legs = let e = w.len-first.ensures in let k = l.legs.ok.0 in omega arith in
+          let legs_are : c.match-nearest_step.legs.items ≡ legs ++ leg ∷ [] =
+          ap (λ (v : Vec _ _). v.items) w.legs-is ∙ w.in_ok-push.ensures.items
+          ∙ ap (λ (u : Ways). legs ++ record { group = step.group; to = step.to; next = u.first } ∷ []) onward in
+          let kept_are : c.match-nearest_step.kept.items ≡ set kept x (ways_after kept legs step w.has_way_home-home.result) =
+          ap (λ (v : Vec _ _). v.items) w.kept-is
+          ∙ ap (λ (k : ℕ). set kept k (ways_to w.ways_at-onward.result w.len-first.result)) w.index.ensures
+          ∙ ap (λ (u : Ways). set kept x (ways_to u w.len-first.result)) onward
+          ∙ ap (λ (k : ℕ). set kept x (ways_to (ways_in kept step.to) k)) place in
+          let long = ap length legs_are ∙ length-append legs (leg ∷ []) in
+          record {
+            kept = subst (λ (s : List Leg). AreKept n s order ends (l.index + 1) c.match-nearest_step.kept.items)
+                (sym legs_are) (subst (λ (k : List Ways). AreKept n (legs ++ leg ∷ []) order ends (l.index + 1) k)
+                (sym kept_are) new);
+            grown = record {
+              more = grown.more ++ leg ∷ [];
+              added = legs_are ∙ ap (λ (s : List Leg). s ++ leg ∷ []) grown.added
+                  ∙ append_assoc c.args.legs.now.items grown.more (leg ∷ []);
+              few =
+                  let a = ap length grown.added ∙ length-append c.args.legs.now.items grown.more in
+                  let b = length-append grown.more (leg ∷ []) in
+                  omega arith;
+            };
+            short = omega arith;
+          })
       | in_default w ↦ record {
-        kept = subst (λ (s : List Leg). AreKept n s order ends (l.index + 1) _)
+        kept = subst (λ (s : List Leg). AreKept n s order ends (l.index + 1) c.match-nearest_step.kept.items)
             (sym (ap (λ (v : Vec _ _). v.items) w.legs-is))
             (subst (λ (k : List Ways). AreKept n legs order ends (l.index + 1) k)
             (sym (ap (λ (v : Vec _ _). v.items) w.kept-is)) (kept_same n legs order ends c.requires.order c.requires.dead_ends kept l.index x at l.invariant.kept

@@ -7,13 +7,13 @@ outcome_of-requires-clause-known g c =
     let p = c.args.plan.now in
     let os = c.in_ok-outages.outages.items in
     let i = c.loop-i.i in
-    let o = c.index.result.now in
+    let o = c.index-outage.result.now in
     let low : i < length os = let t = c.loop-i-test.true in let e = c.len-i-end.ensures in
     omega arith in
     outage_known p c.args.risks.now c.requires.risks o (all_at (IsKnown p) os i o
     (subst (AllByRecursion (IsKnown p)) (sym c.in_ok-outages.ensures)
     (all_known p c.args.risks.now c.args.named_only))
-    (slice_get_read os (length os) i o refl low c.index.ensures))
+    (slice_get_read os (length os) i o refl low c.index-outage.ensures))
 
 pub loop-i-preserved : goal.loop-i-preserved
 loop-i-preserved g c =
@@ -22,7 +22,7 @@ loop-i-preserved g c =
     let low : c.loop-i.i < length os = let t = c.loop-i-test.true in let e = c.len-i-end.ensures in
     omega arith in
     let next = outcomes_next c.args.plan.now c.args.risks.now os c.loop-i.i c.loop-i.outcomes.items
-    one low (subst (λ o. o ≡ get_or os c.loop-i.i o) (sym c.in_ok-outcome.ensures.outage) c.index.ensures)
+    one low (subst (λ o. o ≡ get_or os c.loop-i.i o) (sym c.in_ok-outcome.ensures.outage) c.index-outage.ensures)
     c.loop-i.invariant.outages c.loop-i.invariant.each
     c.in_ok-outcome.ensures.outcome in
     rw c.in_ok-push.ensures.items (record { outages = next.0; each = next.1 })
