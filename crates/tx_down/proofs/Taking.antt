@@ -1,12 +1,12 @@
 -- The next entry of a plan that is declared anew: nothing but lack of memory refuses it.
-use Rattle.std.proofs.Common.{◌≡◌, ◌≢◌, ℕ, suc, ◌+◌, ◌<◌, ◌≤◌, Bool, true, false, not, ◌||◌, ◌&&◌, ◌==◌, nat_le, List, [], ◌∷◌, ◌++◌, length, take, drop, Option, Some, None, Ok, Err, inl, inr, refl, sym, ap, ◌∙◌, subst, arith, eq-eqb, eqb-true, unwrap_or, length-append}
+use Rattle.std.proofs.Common.{◌≡◌, ◌≢◌, ℕ, suc, ◌+◌, ◌<◌, ◌≤◌, Bool, true, false, not, ◌||◌, ◌&&◌, ◌==◌, nat_le, List, [], ◌∷◌, ◌++◌, length, take, drop, Option, Some, None, ◌⊎◌, inl, inr, refl, sym, ap, ◌∙◌, subst, arith, eq-eqb, eqb-true, unwrap_or, length-append}
 use Rattle.tx_join.proofs.Common.{same_Some, list_any, AllByRecursion, bytes_eq, nat_tests, take-append-drop, is_name, filter, slice_get, option_map_or, LineRange, Plan, Code, Group, Direction, OneWay, EachPair, IsPlan, IsCode, IsGroup, IsRange, exchange_named, code_named, exchange_name, figures_of, group_name, home_of, ends_of, direction_of, count_of, all_kept, entry_at, all_at, take_next, exchange_back, code_back, first_true, exchange_refusals, code_refusals, lines_refusals, group_refusals, with_exchange, with_code, with_lines, with_group, and_parts, and_from, false_from_ne_true, true≢false}
 use Rattle.std.proofs.lemmas.Bool.{leb-true}
 use Rattle.std.proofs.lemmas.List.Sums.{length-filter, count_by-le-length}
 use Rattle.tx_plan.specs.Plan.{no_plan}
 use Rattle.tx_plan.specs.Rules.{AreSeparate}
 use Rattle.tx_plan.specs.Numbers.{at_most, shares}
-use Rattle.tx_plan.specs.Declaring.{Declares, exchange_at, code_at, overlaps}
+use Rattle.tx_plan.specs.Declaring.{exchange_at, code_at, overlaps}
 use Rattle.tx_plan.specs.declared.refusal.PlanRefusal.{PlanRefusal}
 use Rattle.tx_plan.specs.declared.refusal.PlanRefusal.TheVariants.{NoMemory}
 use Rattle.tx_plan.proofs.ByIndex.{bytes_apart}
@@ -18,10 +18,10 @@ use Rattle.tx_down.specs.inner.Stages.{its_exchanges, its_codes, its_ranges}
 
 -- WHERE NOTHING REFUSES
 
-pub out_of_memory : (refusal : Option PlanRefusal) (old next new : Plan) (e : PlanRefusal) → refusal ≡ None
-    → Declares refusal old next new (Err e) → e ≡ NoMemory
-out_of_memory refusal old next new e none (s, inl k) = absurd (let bad : ⊥ = cc in bad)
-out_of_memory refusal old next new e none (s, inr k) = k.1
+pub out_of_memory : (refusal : Option PlanRefusal) (e : PlanRefusal) → refusal ≡ None
+    → (refusal ≡ Some e) ⊎ ((refusal ≡ None) × (e ≡ NoMemory)) → e ≡ NoMemory
+out_of_memory refusal e none (inl k) = absurd (let bad : ⊥ = cc in bad)
+out_of_memory refusal e none (inr k) = k.1
 
 pub kept_few : {A : Type 0} (s : A → Bool) (xs : List A) → length (filter s xs) ≤ length xs
 kept_few s xs = subst (λ n. n ≤ length xs) (sym (length-filter s xs)) (count_by-le-length s xs)

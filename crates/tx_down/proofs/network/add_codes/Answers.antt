@@ -14,8 +14,8 @@ returns-in_err-code-clause-memory g c =
     let named = c.code_figures.ensures.value ∙ ap (figures_of from) c.of-code.ensures in
     let home = c.exchange_name-home.ensures.value ∙ ap (exchange_name from) (c.home.ensures ∙ ap (home_of from) c.of-code.ensures) in
     rw (exits_with c.from_residual.result c.in_err-code.field-0.0 c.from_residual.ensures.1)
-    (out_of_memory _ _ _ c.loop-index.builder _ (code_fits from c.codes-index-end.ensures.rules c.loop-index.builder _ _
-    c.loop-index.index (omega arith) c.loop-index.invariant named home) c.in_err-code.ensures)
+    (out_of_memory _ _ (code_fits from c.codes-index-end.ensures.rules c.loop-index.builder _ _
+    c.loop-index.index (omega arith) c.loop-index.invariant named home) c.in_err-code.ensures.1)
 
 pub loop-index-preserved : goal.loop-index-preserved
 loop-index-preserved g c =

@@ -12,8 +12,8 @@ returns-in_err-exchange-clause-memory g c =
     let n = c.exchanges-index-end.ensures.count in
     let named = c.exchange_name.ensures.value ∙ ap (exchange_name from) c.of.ensures in
     rw (exits_with c.from_residual.result c.in_err-exchange.field-0.0 c.from_residual.ensures.1)
-    (out_of_memory _ _ _ c.loop-index.builder _ (exchange_fits from c.exchanges-index-end.ensures.rules c.loop-index.builder _
-    c.loop-index.index (omega arith) c.loop-index.invariant named) c.in_err-exchange.ensures)
+    (out_of_memory _ _ (exchange_fits from c.exchanges-index-end.ensures.rules c.loop-index.builder _
+    c.loop-index.index (omega arith) c.loop-index.invariant named) c.in_err-exchange.ensures.1)
 
 pub loop-index-preserved : goal.loop-index-preserved
 loop-index-preserved g c =

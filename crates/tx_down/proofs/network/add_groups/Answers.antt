@@ -17,9 +17,9 @@ returns-in_err-group-clause-memory g c =
     let way = c.direction-direction.ensures ∙ ap (direction_of from) c.of-group.ensures in
     let many = c.group_count-count.ensures.value ∙ ap (count_of from) c.of-group.ensures in
     rw (exits_with c.from_residual.result c.in_err-group.field-0.0 c.from_residual.ensures.1)
-    (out_of_memory _ _ _ c.loop-index.builder _ (group_fits from c.groups-index-end.ensures.rules c.args.down.now
+    (out_of_memory _ _ (group_fits from c.groups-index-end.ensures.rules c.args.down.now
     c.loop-index.builder _ c.loop-index.index (omega arith) c.loop-index.invariant named _ _ _ _ first second way many)
-    c.in_err-group.ensures)
+    c.in_err-group.ensures.1)
 
 pub loop-index-preserved : goal.loop-index-preserved
 loop-index-preserved g c =

@@ -18,9 +18,9 @@ unreachable-requires g c =
 pub returns-in_err-lines-in-Some-clause-memory : goal.returns-in_err-lines-in-Some-clause-memory
 returns-in_err-lines-in-Some-clause-memory g c =
     rw (exits_with c.from_residual.result c.in_err-lines-in-Some.field-0.0 c.from_residual.ensures.1)
-    (out_of_memory _ _ _ c.loop-index.builder _ (range_fits c.args.from.now c.ranges-index-end.ensures.rules c.loop-index.builder
+    (out_of_memory _ _ (range_fits c.args.from.now c.ranges-index-end.ensures.rules c.loop-index.builder
     c.in-Some.range _ _ _ c.loop-index.index (sym c.in-Some.ensures) c.loop-index.invariant
-    c.code_figures-figures.ensures.value c.bytes.ensures.value c.bytes-in-Some.ensures.value) c.in_err-lines-in-Some.ensures)
+    c.code_figures-figures.ensures.value c.bytes.ensures.value c.bytes-in-Some.ensures.value) c.in_err-lines-in-Some.ensures.1)
 
 pub loop-index-preserved : goal.loop-index-preserved
 loop-index-preserved g c =

@@ -1,5 +1,4 @@
-use Rattle.std.proofs.Common.{ℕ, ◌∙◌, ◌∷◌, [], Some, length, sym, ap, arith, length-append}
-use Rattle.arrayvec.specs.ArrayVec.{ArrayVec}
+use Rattle.std.proofs.Common.{◌≡◌, ◌∙◌, ◌∷◌, ◌++◌, [], Some, length, sym, ap, arith, length-append}
 use Rattle.std.proofs.lemmas.Option.{slice_get-get_or}
 use Rattle.tx_plan.specs.Plan.{group_named}
 use Rattle.tx_plan.proofs.ListFound.{list_few}
@@ -25,7 +24,8 @@ loop-group-preserved g c =
     let named = ap (group_named net) (sym c.group_name.ensures.value) ∙ sym c.group_named.ensures in
     elim c.match-group_named.branch [
       | in-Some w ↦ (
-          let new = ap (λ (l : ArrayVec ℕ). l.items) w.list-is ∙ w.push.ensures.items in
+          let new : c.match-group_named.list.items ≡ c.loop-group.list.items ++ w.in-Some.known ∷ [] =
+          let a = w.list-is in let b = w.push.ensures.items in cc in
           record {
             few = let l = ap length new in
                 let a = length-append c.loop-group.list.items (w.in-Some.known ∷ []) in
@@ -33,10 +33,11 @@ loop-group-preserved g c =
             over = group_known net c.args.plan.now xs c.loop-group.list.items c.match-group_named.list.items
                 c.loop-group.group-index c.group-item.result at i.over w.in-Some.known (named ∙ w.in-Some.is) new;
           })
-      | in-None w ↦ record {
-        few = let l = ap (λ (l : ArrayVec ℕ). length l.items) w.list-is in omega arith;
-        over = group_unknown net c.args.plan.now xs c.loop-group.list.items c.match-group_named.list.items
-            c.loop-group.group-index c.group-item.result at i.over (named ∙ w.in-None.is)
-            (ap (λ (l : ArrayVec ℕ). l.items) w.list-is);
-      }
+      | in-None w ↦ (
+          let same : c.match-group_named.list.items ≡ c.loop-group.list.items = let a = w.list-is in cc in
+          record {
+            few = let l = ap length same in omega arith;
+            over = group_unknown net c.args.plan.now xs c.loop-group.list.items c.match-group_named.list.items
+                c.loop-group.group-index c.group-item.result at i.over (named ∙ w.in-None.is) same;
+          })
     ]
