@@ -5,10 +5,9 @@ ghost use Rattle.tx_text.specs.Calls.{CallsAtMost, source_calls};
 ghost use Rattle.tx_text.specs.Ends.{input};
 ghost use Rattle.tx_text.specs.Said.{told_fault};
 ghost use Rattle.tx_order.specs.DoneText.{switches, pair_if, pair_said, word_row, fault_row, ReadsDone};
-ghost use Rattle.tx_order.specs.declared.done.DoneWord.TheVariants.{NoMemory as OutOfMemory};
 
 use crate::orders::Order;
-use std::alloc::{AllocError, Allocator};
+use std::alloc::Allocator;
 use std::marker::Model;
 use tx_plan::Pair;
 use tx_text::{Declares, FaultAt, FaultKind, Source, Words, read_text};
@@ -24,14 +23,6 @@ pub enum DoneWord {
     NotSwitched,
     /// D7: no memory was left.
     NoMemory,
-}
-
-impl From<AllocError> for DoneWord {
-    ghost from_gives = { λ _ word. word ≡ OutOfMemory };
-
-    fn from(_: AllocError) -> DoneWord {
-        DoneWord::NoMemory
-    }
 }
 
 /// What is wrong with such a text, and the line of it, counted from 1.
@@ -153,7 +144,10 @@ impl<'o, A: Allocator> Declares for DoneLines<'o, A> {
 
     fn declare(&mut self, _version: u8, words: Words<'_>) -> Result<(), DoneWord> {
         let pair = pair_said(self.order, self.stage, words)?;
-        Ok(self.pairs.push(pair)?)
+        match self.pairs.push(pair) {
+            Ok(()) => Ok(()),
+            Err(_) => Err(DoneWord::NoMemory),
+        }
     }
 }
 
