@@ -50,10 +50,10 @@ fn word_row(word: DoneWord) -> (&'static [u8], &'static [u8])
 }
 
 /// Whether the stages up to this one switch the list or the bar of an exchange for a code.
-fn switches<A: Allocator>(order: &Order<A>, stage: usize, pair: Pair) -> bool
-    ensures { result ≡ switches order.now stage pair }
+fn switches<A: Allocator>(order: &Order<A>, stage: usize, pair: &Pair) -> bool
+    ensures { result ≡ switches order.now stage pair.now }
 {
-    let Pair { exchange, code } = pair;
+    let (exchange, code) = (pair.exchange, pair.code);
     let barred = order.is_barred(0, exchange, code);
     order.list(0, exchange, code) != order.list(stage, exchange, code)
         || barred != order.is_barred(stage, exchange, code)
@@ -84,8 +84,13 @@ fn pair_if<A: Allocator>(
     ensures { result ≡ pair_if order.now stage pair }
 {
     match pair {
-        Some(pair) if switches(order, stage, pair) => Ok(pair),
-        Some(_) => Err(DoneWord::NotSwitched),
+        Some(pair) => {
+            if switches(order, stage, &pair) {
+                Ok(pair)
+            } else {
+                Err(DoneWord::NotSwitched)
+            }
+        }
         None => Err(DoneWord::UnknownName),
     }
 }
