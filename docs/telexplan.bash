@@ -24,7 +24,7 @@ _telexplan() {
                 *:help:*) words="lint audit grade mend change order survive page check run codes trace fill explain" ;;
                 *:explain:*) words="--help $(telexplan explain 2>/dev/null | cut -d ' ' -f 1)" ;;
                 *:audit:-*) words="--limit --spare --cert --counter --down --down-exchange --help" ;;
-                *:mend:-*) words="--limit --spare --plan --cert --help" ;;
+                *:mend:-*) words="--limit --spare --plan --cert --down --down-exchange --help" ;;
                 *:change:-*) words="--limit --spare --cert --mixture --counter --down --down-exchange --help" ;;
                 *:order:-*) words="--limit --spare --stage --plan --cert --done --back --spare-now --down --down-exchange --help" ;;
                 *:lint:-*) words="--risks --help" ;;

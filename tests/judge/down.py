@@ -1,4 +1,4 @@
-"""Judges what is said while groups are down: the same as of plans whose lists lack these groups, which other topics judge by all walks."""
+"""Judges what is said while groups are down: the same as of plans whose lists lack these groups, and that lack them for `mend`, which other topics judge by all walks."""
 from audit import numbers
 from walks import need
 
@@ -11,22 +11,31 @@ def left(plan, gone):
     return other
 
 
+def without(plan, gone):
+    """The plan that is left, without these groups in its network too."""
+    other = left(plan, gone)
+    other.groups = {name: it for name, it in plan.groups.items() if name not in gone}
+    return other
+
+
 def judge_down(program, old, new, at, down, exchange):
     """Judges each command of one plan or of two that takes what is down."""
     asked = (["--down", ",".join(down)] if down else []) + (["--down-exchange", exchange] if exchange else [])
     missing = [f"exchange in the plan: {exchange}"] if exchange and exchange not in old.exchanges + new.exchanges else []
     missing += [f"group in the plan: {g}" for g in down if g not in old.groups and g not in new.groups]
 
-    def texts(is_left):
-        gone = {g for plan in (old, new) for g, it in plan.groups.items() if g in down or exchange in it[:2]} if is_left else ()
-        return {name: left(plan, gone).text for name, plan in zip("pq", (old, new))}
+    gone = {g for plan in (old, new) for g, it in plan.groups.items() if g in down or exchange in it[:2]}
 
-    for words in (["audit", "p", *numbers(*at)], ["grade", "p"], ["survive", "p"], ["change", "p", "q", *numbers(*at)], ["order", "p", "q", *numbers(*at)], ["survive", "q", "--from", "p"]):
+    def texts(judged):
+        return {name: judged(plan, gone).text for name, plan in zip("pq", (old, new))}
+
+    for words in (["audit", "p", *numbers(*at)], ["mend", "p", *numbers(*at)], ["grade", "p"], ["survive", "p"], ["change", "p", "q", *numbers(*at)], ["order", "p", "q", *numbers(*at)], ["survive", "q", "--from", "p"]):
         if "q" not in words and (any(g not in old.groups for g in down) or exchange and exchange not in old.exchanges):
             continue
-        ran = program.run([*words, *asked], texts(False))
+        ran = program.run([*words, *asked], texts(lambda plan, gone: plan))
         if missing:
-            need((ran.status, ran.out, ran.err) == (64, "", f"telexplan: no such {missing[0]}\n"), f"refused as {ran.err}")
+            told = ran.err.split(";")[0].rstrip("\n")
+            need((ran.status, ran.out, told) == (64, "", f"telexplan: no such {missing[0]}"), f"refused as {ran.err}")
             continue
-        wanted = program.run(words, texts(True))
+        wanted = program.run(words, texts(without if words[0] == "mend" else left))
         need((ran.status, ran.out) == (wanted.status, wanted.out), f"{words} says {ran.out} and not {wanted.out}")

@@ -150,7 +150,8 @@ Asks name found (Order r) = (name ≡ codes "order") × Names found (codes "befo
     × AsksForDown found r.down × AreOfWholePlan r.down (is_some r.plan || is_some r.cert)
 Asks name found (Mend r) = (name ≡ codes "mend") × Names found (codes "before") r.plan
     × GivesLimits found r.limits × NamesIfAny found (codes "plan") r.mended
-    × NamesIfAny found (codes "cert") r.cert
+    × NamesIfAny found (codes "cert") r.cert × AsksForDown found r.down
+    × AreOfWholePlan r.down (is_some r.mended || is_some r.cert)
 Asks name found (Survive r) = (name ≡ codes "survive") × Names found (codes "plan") r.plan
     × AsksForRisks found r.risks × (first_of (codes "from") found ≡ None)
     × AsksForDown found r.down

@@ -77,9 +77,9 @@ audit_words =
 -- a command with a plan, and an option that names another one, so the plan goes by another id
 abbrev pub mend_words : App
 mend_words =
-    with_rule (with_rule (with_rule (with_rule (with_rule
+    with_down (with_rule (with_rule (with_rule (with_rule (with_rule
     (new_app (codes "mend")) (file (codes "before"))) (needed_rule limit)) (needed_rule spare))
-    (option (codes "plan"))) (option (codes "cert"))
+    (option (codes "plan"))) (option (codes "cert")))
 
 -- the arguments of `survive`
 abbrev pub survive_words : App

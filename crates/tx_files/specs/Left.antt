@@ -65,8 +65,8 @@ missing_down p q d = option_or (missing_exchange p q (option_map string_bytes d.
 
 -- refused for what is missing, or for lack of memory
 abbrev pub IsRefusedFor : Option CommandFault → Result (Unit {0}) CommandFault → Type 0
-IsRefusedFor missing (Ok x) = missing ≡ None
-IsRefusedFor missing (Err fault) = (missing ≡ Some fault) ⊎ (fault ≡ memory_stop)
+IsRefusedFor lack (Ok x) = lack ≡ None
+IsRefusedFor lack (Err fault) = (lack ≡ Some fault) ⊎ (fault ≡ memory_stop)
 
 -- THE TEXTS
 

@@ -1,0 +1,4 @@
+mod Taking
+mod Over
+mod Rules
+mod NextRoute

@@ -1,0 +1,6 @@
+use Rattle.std.proofs.Common.{◌≡◌, take}
+use Rattle.tx_down.specs.inner.Stages.{its_codes}
+use Rattle.tx_down.proofs.network.add_ranges.Given as goal
+
+abbrev pub invariant-loop-index : goal.invariant-loop-index
+invariant-loop-index g l = l.builder ≡ record (its_codes l.from) { ranges = take l.index l.from.ranges }

@@ -1,0 +1,9 @@
+use Rattle.std.proofs.Common.{◌≡◌, ◌≤◌, length, take}
+use Rattle.tx_down.specs.Without.{list_over}
+use Rattle.tx_down.proofs.without.list_over.Given as goal
+
+abbrev pub invariant-loop-group : goal.invariant-loop-group
+invariant-loop-group g l = record {
+  few : length l.list.items ≤ l.group-index;
+  over : l.list.items ≡ list_over l.network l.plan (take l.group-index l.tried);
+}
