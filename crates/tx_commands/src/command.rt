@@ -92,14 +92,19 @@ impl Command {
                 script: request.counter.as_deref(),
                 ..Files::of_two(&request.old, &request.new)
             },
-            Command::Order(request) => Files {
-                plan: request.plan.as_deref(),
-                cert: request.cert.as_deref(),
-                ..Files::reading([
-                    Some(&request.old),
-                    Some(&request.new),
-                    request.done.as_deref(),
-                ])
+            Command::Order(
+                OrderRequest {
+                    old,
+                    new,
+                    plan,
+                    cert,
+                    done,
+                    ..
+                },
+            ) => Files {
+                plan: plan.as_deref(),
+                cert: cert.as_deref(),
+                ..Files::reading([Some(old), Some(new), done.as_deref()])
             },
             Command::Mend(request) => Files {
                 plan: request.mended.as_deref(),

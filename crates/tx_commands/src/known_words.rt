@@ -23,7 +23,13 @@ pub(crate) fn is_asked(line: &str, entry: &Entry) -> bool
 pub(crate) fn is_known(line: &str) -> bool
     ensures { result ≡ is_known line.now }
 {
-    let tables = tables();
+    asks_in_some(&tables(), line)
+}
+
+fn asks_in_some(tables: &[&[Entry]], line: &str) -> bool
+    ensures { result
+        ≡ list_any (λ t. list_any (λ e. is_asked line.now (texts e)) t.now) tables.now }
+{
     tables.iter().any(|entries| asks_in(entries, line))
 }
 

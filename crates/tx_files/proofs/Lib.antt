@@ -3,4 +3,4 @@ mod LeftGroups
 mod LeftTexts
 mod Texts
 mod RevisedText
-pub mod StoppedTexts
+mod StoppedTexts

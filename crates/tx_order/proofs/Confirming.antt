@@ -22,8 +22,8 @@ module _ (o : Order) (k : IsOrderKept o) where
 
 -- the old plan with the lists of a plan on the way is that plan
 module _ {A : Type 0} (o : Order) where
-  pub with_stopped : (s : ℕ) (done : Option (List Pair)) (l : Lists A) → AreListsOf (plan_stopped o s done) l → rerouted o.transition.old l.routes l.bars ≡ plan_stopped o s done
-  with_stopped s done l a = λ i. rerouted o.transition.old (a.routes i) (a.bars i)
+  pub with_stopped : (s : ℕ) (pairs : Option (List Pair)) (l : Lists A) → AreListsOf (plan_stopped o s pairs) l → rerouted o.transition.old l.routes l.bars ≡ plan_stopped o s pairs
+  with_stopped s pairs l a = λ i. rerouted o.transition.old (a.routes i) (a.bars i)
 
   pub with_lists : (s : ℕ) (l : Lists A) → AreListsOf (plan_before o s) l → rerouted o.transition.old l.routes l.bars ≡ plan_before o s
   with_lists s l a = with_stopped s None l a

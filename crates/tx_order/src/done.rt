@@ -5,10 +5,9 @@ ghost use Rattle.tx_text.specs.Calls.{CallsAtMost, source_calls};
 ghost use Rattle.tx_text.specs.Ends.{input};
 ghost use Rattle.tx_text.specs.Said.{told_fault};
 ghost use Rattle.tx_order.specs.DoneText.{switches, pair_if, pair_said, word_row, fault_row, ReadsDone};
-ghost use Rattle.tx_order.specs.declared.done.DoneWord.TheVariants.{NoMemory as OutOfMemory};
 
 use crate::orders::Order;
-use std::alloc::{AllocError, Allocator};
+use std::alloc::Allocator;
 use std::marker::Model;
 use tx_plan::Pair;
 use tx_text::{Declares, FaultAt, FaultKind, Source, Words, read_text};
@@ -24,14 +23,6 @@ pub enum DoneWord {
     NotSwitched,
     /// D7: no memory was left.
     NoMemory,
-}
-
-impl From<AllocError> for DoneWord {
-    ghost from_gives = { λ _ word. word ≡ OutOfMemory };
-
-    fn from(_: AllocError) -> DoneWord {
-        DoneWord::NoMemory
-    }
 }
 
 /// What is wrong with such a text, and the line of it, counted from 1.
@@ -59,10 +50,10 @@ fn word_row(word: DoneWord) -> (&'static [u8], &'static [u8])
 }
 
 /// Whether the stages up to this one switch the list or the bar of an exchange for a code.
-fn switches<A: Allocator>(order: &Order<A>, stage: usize, pair: Pair) -> bool
-    ensures { result ≡ switches order.now stage pair }
+fn switches<A: Allocator>(order: &Order<A>, stage: usize, pair: &Pair) -> bool
+    ensures { result ≡ switches order.now stage pair.now }
 {
-    let Pair { exchange, code } = pair;
+    let (exchange, code) = (pair.exchange, pair.code);
     let barred = order.is_barred(0, exchange, code);
     order.list(0, exchange, code) != order.list(stage, exchange, code)
         || barred != order.is_barred(stage, exchange, code)
@@ -93,8 +84,13 @@ fn pair_if<A: Allocator>(
     ensures { result ≡ pair_if order.now stage pair }
 {
     match pair {
-        Some(pair) if switches(order, stage, pair) => Ok(pair),
-        Some(_) => Err(DoneWord::NotSwitched),
+        Some(pair) => {
+            if switches(order, stage, &pair) {
+                Ok(pair)
+            } else {
+                Err(DoneWord::NotSwitched)
+            }
+        }
         None => Err(DoneWord::UnknownName),
     }
 }
@@ -153,7 +149,10 @@ impl<'o, A: Allocator> Declares for DoneLines<'o, A> {
 
     fn declare(&mut self, _version: u8, words: Words<'_>) -> Result<(), DoneWord> {
         let pair = pair_said(self.order, self.stage, words)?;
-        Ok(self.pairs.push(pair)?)
+        match self.pairs.push(pair) {
+            Ok(()) => Ok(()),
+            Err(_) => Err(DoneWord::NoMemory),
+        }
     }
 }
 

@@ -13,7 +13,7 @@ use tx_text::NoMemory;
 
 /// How many stages are done for an exchange and a code, where one is stopped.
 fn stages_done(done: Option<&[Pair]>, stage: usize, exchange: ExchangeId, code: CodeId) -> usize
-    ensures { result ≡ stages_done (option_map (λ d. d.now) done) stage exchange code }
+    ensures { result ≡ stages_done (option_map (λ d. d.now) done.entry) stage exchange code }
 {
     match done {
         Some(pairs) if !pairs.contains(&Pair { exchange, code }) => stage.saturating_sub(1),

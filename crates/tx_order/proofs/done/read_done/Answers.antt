@@ -1,5 +1,4 @@
-use Rattle.tx_order.proofs.Common.{[], codes}
-use Rattle.std.specs.Prelude.{Ok, Err}
+use Rattle.std.specs.Prelude.{[], Ok, Err, codes}
 use Rattle.tx_text.specs.Ends.{input}
 use Rattle.tx_text.proofs.Beside.{answered_beside}
 use Rattle.tx_text.proofs.Exits.{exits_with}
