@@ -1,5 +1,2 @@
 pub mod StepsOfWalks
-pub mod AloneIn
-pub mod AnyBelow
 pub mod Common
-pub mod Texts

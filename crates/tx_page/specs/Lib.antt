@@ -4,9 +4,4 @@ pub mod CodeTexts
 pub mod OutageTexts
 pub mod NetworkTexts
 pub mod Page
-pub mod ChangeTexts
-pub mod StepTexts
-pub mod Numbers
 pub mod Decision
-pub mod CrewTexts
-pub mod inner

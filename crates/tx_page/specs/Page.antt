@@ -3,10 +3,10 @@ use Rattle.std.specs.Prelude.{ℕ, Bool, true, false, List, [], ◌∷◌, ◌++
 use Rattle.std.specs.Borrow.{Bor}
 use Rattle.tx_rank.specs.declared.ranking.Ranking.{Ranking}
 use Rattle.tx_rank.specs.declared.ranking.Ranking.TheVariants.{Found, Fails}
-use Rattle.tx_page.specs.declared.change.Change.{Change}
-use Rattle.tx_page.specs.StepTexts.{change_texts}
+use Rattle.tx_page_change.specs.declared.change.Change.{Change}
+use Rattle.tx_page_change.specs.StepTexts.{change_texts}
 use Rattle.tx_page.specs.declared.subject.Subject.{Subject}
-use Rattle.tx_page.specs.CrewTexts.{crews_texts}
+use Rattle.tx_page_change.specs.CrewTexts.{crews_texts}
 use Rattle.tx_page.specs.Decision.{decision_texts}
 use Rattle.tx_page.specs.Heading.{heading_texts}
 use Rattle.tx_page.specs.WrongTexts.{wrong_texts}

@@ -2,22 +2,21 @@
 ghost use Rattle.std.specs.Prelude.{◌≡◌, [], ◌∷◌, option_map};
 ghost use Rattle.hex.specs.Hex.{encode_lower};
 ghost use Rattle.tx_html.specs.Shows.{Sets};
-ghost use Rattle.tx_page.specs.Decision.{circuits_in, sizes_texts, measures_texts, summary_texts, date_texts, worst_texts, both_worst_texts, is_worse_in, compared_texts, sources_texts, decision_texts};
-ghost use Rattle.tx_page.specs.Numbers.{numbers_of, most_cut};
+ghost use Rattle.tx_page_change.specs.Counts.{circuits_in};
+ghost use Rattle.tx_page.specs.Decision.{sizes_texts, measures_texts, summary_texts, date_texts, worst_texts, both_worst_texts, is_worse_in, compared_texts, sources_texts, decision_texts};
+ghost use Rattle.tx_page_change.specs.Numbers.{numbers_of, most_cut};
 
-use crate::change::Change;
-use crate::counts::{count_circuits, count_lines, count_origins};
 use crate::heading::{
     write_figures, write_promise, write_start, write_verdict, write_version, write_warning,
 };
-use crate::numbers::{Numbers, are_worse, numbers_of};
 use crate::outages::{kind_of, name_of};
-use crate::rows::{is_any, write_label, write_measure, write_outcomes, write_pair};
 use crate::subject::Subject;
-use crate::way::{has_way, write_way};
-use crate::worst::worst_of;
 use std::alloc::Allocator;
 use tx_html::{PageSink, Part, set};
+use tx_page_change::{
+    Change, Numbers, are_worse, count_circuits, count_lines, count_origins, has_way, is_any,
+    numbers_of, worst_of, write_label, write_measure, write_outcomes, write_pair, write_way,
+};
 use tx_plan::Plan;
 use tx_risk::{Outcome, Risks};
 

@@ -4,11 +4,11 @@ ghost use Rattle.hex.specs.Hex.{encode_lower};
 ghost use Rattle.tx_html.specs.Shows.{Sets};
 ghost use Rattle.tx_page.specs.Heading.{verdict_word, start_texts, verdict_texts, promise_texts, warning_texts, count_texts, digest_texts, heading_texts};
 
-use crate::counts::{count_lines, count_origins};
 use crate::style::STYLE;
 use hex::encode_to_slice;
 use std::alloc::Allocator;
 use tx_html::{PageSink, Part, set};
+use tx_page_change::{count_lines, count_origins};
 use tx_plan::{Limits, Plan};
 use tx_svg::HEADS;
 

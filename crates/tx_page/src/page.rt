@@ -3,9 +3,7 @@ ghost use Rattle.std.specs.Prelude.{◌≡◌};
 ghost use Rattle.tx_html.specs.Shows.{Sets, Showed};
 ghost use Rattle.tx_page.specs.Page.{is_safe, down_texts, first_texts, asked_change_texts, page_texts};
 
-use crate::change::{Change, write_change};
 use crate::codes::write_codes;
-use crate::crews::write_crews;
 use crate::decision::write_decision;
 use crate::findings::write_wrong;
 use crate::heading::write_heading;
@@ -14,6 +12,7 @@ use crate::outages::write_outages;
 use crate::subject::Subject;
 use std::alloc::Allocator;
 use tx_html::{PageSink, Part, set};
+use tx_page_change::{Change, write_change, write_crews};
 use tx_rank::{Finding, Ranking};
 use tx_svg::write_pictures;
 use tx_text::WriteFault;

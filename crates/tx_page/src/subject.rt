@@ -1,6 +1,6 @@
 // What a page is about.
-use crate::change::Change;
 use std::alloc::Allocator;
+use tx_page_change::Change;
 use tx_plan::{Limits, Plan};
 use tx_rank::{Grade, Ranking};
 use tx_risk::{Outcome, Risks};

@@ -22,9 +22,9 @@ use Rattle.tx_risk_report.specs.Comparison.{is_worse, is_better}
 use Rattle.tx_rank.specs.declared.bounds.Bounds.{Bounds}
 use Rattle.tx_rank.specs.declared.plan_grade.Grade.{Grade}
 use Rattle.tx_html.specs.Shows.{ShowedBy}
-use Rattle.tx_page.specs.declared.change.Change.{Change}
-use Rattle.tx_page.specs.declared.outlook.Outlook.{Outlook as PageOutlook}
-use Rattle.tx_page.specs.Numbers.{if_graded}
+use Rattle.tx_page_change.specs.declared.change.Change.{Change}
+use Rattle.tx_page_change.specs.declared.outlook.Outlook.{Outlook as PageOutlook}
+use Rattle.tx_page_change.specs.Numbers.{if_graded}
 use Rattle.tx_page.specs.Page.{is_safe, page_texts}
 use Rattle.tx_page.specs.declared.subject.Subject.{Subject}
 use Rattle.tx_commands.specs.declared.grammar.TheConstants.{VERSION}
@@ -70,6 +70,17 @@ abbrev pub exchange_asked : Option Down → Option (List ℕ)
 exchange_asked None = None
 exchange_asked (Some d) = option_map string_bytes d.exchange
 
+-- a number, if both plans have a grade
+abbrev pub if_both : (old new : Option Bounds) → ℕ → Option ℕ
+if_both old new n = option_and_then (λ b. if_graded new n) old
+
+-- the date and the time of day of a moment, in seconds since 1970, up to the year 9999
+abbrev pub IsDateOf : Option ℕ → Option (List ℕ) → Type 0
+IsDateOf None date = date ≡ None
+IsDateOf (Some moment) None = 253402300800 ≤ moment
+IsDateOf (Some moment) (Some text) =
+    (d : HttpDate) × (unix_secs d ≡ moment) × (text ≡ date_text d)
+
 module _ {A : Type 0} where
   -- the codes of which a page has pictures, in order of declaration
   abbrev pub shown_codes : PageRequest → PageTexts A → Ranking A → Option (FoundChange A) → List ℕ
@@ -85,10 +96,6 @@ module _ {A : Type 0} where
     pub heights : AreRanksOfGrades p (ranks_of f.grade.ranks) f.grade.codes.items
     pub outcomes : IfSome f.grade.plan (λ _. AreOutcomes p risks false f.outcomes.items)
     pub none : f.grade.plan ≡ None → f.outcomes.items ≡ []
-
-  -- a number, if both plans have a grade
-  abbrev pub if_both : (old new : Option Bounds) → ℕ → Option ℕ
-  if_both old new n = option_and_then (λ b. if_graded new n) old
 
   -- after how many outages somebody is worse off in the new plan, and after how many better
   pub record AreCounted (old new network : Plan) (risks : List NamedRisk) (before : Outlook A)
@@ -141,13 +148,6 @@ module _ {A : Type 0} where
   PageAnswers r t (Err fault) =
       IsNoCode t.plan.plan (option_map string_bytes r.code) fault
       ⊎ (IsNoChange t.old t.plan fault ⊎ (fault ≡ memory_stop))
-
-  -- the date and the time of day of a moment, in seconds since 1970, up to the year 9999
-  abbrev pub IsDateOf : Option ℕ → Option (List ℕ) → Type 0
-  IsDateOf None date = date ≡ None
-  IsDateOf (Some moment) None = 253402300800 ≤ moment
-  IsDateOf (Some moment) (Some text) =
-      (d : HttpDate) × (unix_secs d ≡ moment) × (text ≡ date_text d)
 
   -- a plan, its grade and its outages, as a page shows them
   abbrev pub IsShownAs : Plan → Grade A → List (Outcome A) → PageOutlook A → Type 0

@@ -10,7 +10,7 @@ use sha2::{Digest, Sha256};
 use std::alloc::Allocator;
 use tx_commands::PageRequest;
 use tx_files::PlanText;
-use tx_page::{Change, Outlook};
+use tx_page_change::{Change, Outlook};
 
 /// The date and the time of day of a moment, in seconds since 1970, up to the year 9999.
 fn date_of(moment: Option<u64>) -> Option<[u8; 29]>

@@ -36,7 +36,7 @@ static COMMANDS: [&str; 32] = [
     "page: page @1 --limit=@2 --spare=@3 --all-codes",
     "page-risks: page @1 --limit=@2 --spare=@3 --risks=risks --all-codes",
     "page-change: page @1 --limit=@2 --spare=@3 --risks=risks --from=old",
-    "page-crews: page @1 --limit=@2 --spare=@3 --from=old --by-exchange",
+    "page-crews: page @1 --limit=@2 --spare=@3 --risks=risks --from=old --by-exchange",
     "page-code: page @1 --limit=@2 --spare=1 --code=@3",
     "grade: grade plan",
     "trace changes: trace plan --from=old",

@@ -1,9 +1,0 @@
-use Rattle.tx_page.proofs.Common.{length, ap, if◌then◌else◌, sets_is, sets_then, texts_below}
-use Rattle.std.proofs.Common.{[]}
-use Rattle.tx_page.specs.CrewTexts.{crew_texts}
-use Rattle.tx_page.proofs.crews.write_crews.Goals as goal
-
-pub returns-then-change : goal.returns-then-change
-returns-then-change g c =
-    let h = c.args.change.now in
-    sets_is (ap (λ b. if b then texts_below (length h.joined.now.new.exchanges) (crew_texts c.args.safe h) else []) c.if-change.true) (sets_then c.set.ensures c.write_each.ensures)

@@ -1,6 +1,0 @@
-use Rattle.tx_page.proofs.Common.{◌≡◌, take}
-use Rattle.tx_page.specs.Numbers.{most_cut}
-use Rattle.tx_page.proofs.worst.most_cut.Given as goal
-
-abbrev pub invariant-loop-i : goal.invariant-loop-i
-invariant-loop-i g l = l.most ≡ most_cut l.plan (take l.i l.outcomes)
