@@ -1,3 +1,4 @@
 pub mod StepsOfWalks
 pub mod AloneIn
 pub mod Common
+pub mod Texts

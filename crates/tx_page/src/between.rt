@@ -25,6 +25,7 @@ pub enum Between<'a, A: Allocator> {
 }
 
 /// The list of an exchange for a code, if another plan does not have one of these; else none.
+#[tactic(auto, using(crate::proofs::AloneIn::list_there, crate::proofs::AloneIn::no_list))]
 fn list_alone<'a, A: Allocator>(
     plan: &'a Plan<A>,
     other: &Plan<A>,
@@ -41,6 +42,7 @@ fn list_alone<'a, A: Allocator>(
 }
 
 /// Whether the exchange is barred for the code, if another plan does not have one of these.
+#[tactic(auto, using(crate::proofs::AloneIn::bar_there))]
 fn is_barred_alone<A: Allocator>(
     plan: &Plan<A>,
     other: &Plan<A>,

@@ -40,6 +40,7 @@ fn lines_at<A: Allocator>(plan: &Plan<A>, code: CodeId, index: usize) -> u64
 }
 
 /// How many lines a code has.
+#[tactic(auto, using(tx_join::proofs::Sums::sum_more))]
 pub fn lines_of<A: Allocator>(plan: &Plan<A>, code: CodeId) -> u64
     ensures { result ≡ lines_of plan.now code }
 {
@@ -62,6 +63,7 @@ fn lines_of_range<A: Allocator>(plan: &Plan<A>, index: usize) -> u64
 }
 
 /// How many lines a plan has.
+#[tactic(auto, using(tx_join::proofs::Sums::sum_more))]
 pub fn count_lines<A: Allocator>(plan: &Plan<A>) -> u64
     ensures { result ≡ lines_in plan.now }
 {
@@ -73,6 +75,7 @@ pub fn count_lines<A: Allocator>(plan: &Plan<A>) -> u64
 }
 
 /// At how many exchanges calls start.
+#[tactic(auto, using(tx_join::proofs::Sums::count_more, tx_join::proofs::Sums::count_few))]
 pub fn count_origins<A: Allocator>(plan: &Plan<A>) -> u64
     ensures { result ≡ origins_in plan.now }
 {

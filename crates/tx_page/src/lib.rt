@@ -1,5 +1,5 @@
 //! A page about a plan: one HTML file without script, which fetches nothing.
-#![tactic(auto)]
+#![tactic(auto, using(crate::proofs::Texts::showing))]
 
 mod between;
 mod change;

@@ -12,15 +12,3 @@ returns-in-Stage-clause-was_barred g c = c.is_barred.ensures ∙ ap (λ b. is_ba
 
 pub returns-in-Stage-clause-is_barred : goal.returns-in-Stage-clause-is_barred
 returns-in-Stage-clause-is_barred g c = c.is_barred-in-Stage.ensures ∙ ap (λ b. is_barred (after_of b) c.args.exchange c.args.code) (sym c.in-Stage.is)
-
-pub returns-in-New-clause-after : goal.returns-in-New-clause-after
-returns-in-New-clause-after g c = c.list_alone.ensures ∙ ap (λ b. route_list (after_of b) c.args.exchange c.args.code) (sym c.in-New.is)
-
-pub returns-in-New-clause-is_barred : goal.returns-in-New-clause-is_barred
-returns-in-New-clause-is_barred g c = c.is_barred_alone.ensures ∙ ap (λ b. is_barred (after_of b) c.args.exchange c.args.code) (sym c.in-New.is)
-
-pub returns-in-Gone-clause-before : goal.returns-in-Gone-clause-before
-returns-in-Gone-clause-before g c = c.list_alone-in-Gone.ensures ∙ ap (λ b. route_list (before_of b) c.args.exchange c.args.code) (sym c.in-Gone.is)
-
-pub returns-in-Gone-clause-was_barred : goal.returns-in-Gone-clause-was_barred
-returns-in-Gone-clause-was_barred g c = c.is_barred_alone-in-Gone.ensures ∙ ap (λ b. is_barred (before_of b) c.args.exchange c.args.code) (sym c.in-Gone.is)
