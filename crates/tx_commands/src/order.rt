@@ -140,15 +140,17 @@ pub(crate) fn order_of(alloc: Global, matches: &ArgMatches<'_>) -> Result<Comman
         None => None,
     };
     let down = down_asked(alloc, matches, made)?;
-    let mut limits = limits(alloc, matches)?;
-    if is_given(matches, "spare-now") {
-        limits.spare = number_of(alloc, matches, "spare-now", 15)?;
-    }
+    let Limits { limit, spare } = limits(alloc, matches)?;
+    let spare = if is_given(matches, "spare-now") {
+        number_of(alloc, matches, "spare-now", 15)?
+    } else {
+        spare
+    };
     match (old, new) {
         (Some(old), Some(new)) => Ok(Command::Order(OrderRequest {
             old,
             new,
-            limits,
+            limits: Limits { limit, spare },
             stage,
             plan,
             cert,

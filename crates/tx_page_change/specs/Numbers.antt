@@ -24,15 +24,15 @@ lines_at p x = sum_by (home_lines p x) p.ranges
 abbrev pub if_graded : Option Bounds → ℕ → Option ℕ
 if_graded grade n = option_map (λ b. n) grade
 
+-- calls for some code are cut off that start at x
+abbrev pub is_cut_at : List Cut → ℕ → Bool
+is_cut_at cuts x = list_any (λ c. not c.stray && (start_at c == x)) cuts
+
+-- so many lines of an exchange are then cut off
+abbrev pub cut_lines_at : Plan → List Cut → ℕ → ℕ
+cut_lines_at p cuts x = if is_cut_at cuts x then lines_at p x else 0
+
 module _ {A : Type 0} where
-  -- calls for some code are cut off that start at x
-  abbrev pub is_cut_at : List (Cut A) → ℕ → Bool
-  is_cut_at cuts x = list_any (λ c. not c.stray && (start_at c == x)) cuts
-
-  -- so many lines of an exchange are then cut off
-  abbrev pub cut_lines_at : Plan → List (Cut A) → ℕ → ℕ
-  cut_lines_at p cuts x = if is_cut_at cuts x then lines_at p x else 0
-
   -- how many lines an outage cuts off, from some code
   abbrev pub lines_cut : Plan → Outcome A → ℕ
   lines_cut p o = sum_by (cut_lines_at p o.cuts.items) (range_with_len 0 (length p.exchanges))

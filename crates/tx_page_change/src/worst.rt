@@ -35,15 +35,15 @@ fn lines_at<A: Allocator>(plan: &Plan<A>, exchange: ExchangeId) -> u64
 }
 
 /// Whether calls for some code are cut off that start at an exchange.
-fn is_cut_at<A: Allocator>(cuts: &[Cut<A>], exchange: ExchangeId) -> bool
+fn is_cut_at(cuts: &[Cut], exchange: ExchangeId) -> bool
     ensures { result ≡ is_cut_at cuts.now exchange }
 {
     cuts.iter()
-        .any(|cut| !cut.stray && cut.walk.start == exchange)
+        .any(|cut| !cut.stray && cut.start == exchange)
 }
 
 /// How many lines of an exchange are then cut off.
-fn cut_lines_at<A: Allocator>(plan: &Plan<A>, cuts: &[Cut<A>], exchange: ExchangeId) -> u64
+fn cut_lines_at<A: Allocator>(plan: &Plan<A>, cuts: &[Cut], exchange: ExchangeId) -> u64
     ensures count { result ≡ cut_lines_at plan.now cuts.now exchange }
     ensures few { result ≤ 4096000000000 }
 {
