@@ -13,8 +13,8 @@ use crate::running::{do_check, do_codes, do_pipe, do_run, do_telling};
 use std::alloc::Allocator;
 use tx_commands::{Command, Down};
 use tx_files::{
-    CommandFault, Ending, Which, read_for_page, read_one, read_plans, read_plans_with_risks,
-    read_whole, read_with_old, read_with_risks,
+    CommandFault, Ending, read_for_page, read_one, read_plans, read_plans_with_risks, read_this,
+    read_with_old, read_with_risks,
 };
 use tx_text::{Sink, Source};
 
@@ -53,9 +53,7 @@ pub fn do_command<A: Allocator + Copy, P: Source, Q: Source, R: Source, W: Sink>
         Command::Order(request) => {
             carry_left(alloc, request, down, read_plans(alloc, first, second), out)
         }
-        Command::Mend(request) => {
-            carry_out(alloc, request, read_whole(alloc, Which::This, first), out)
-        }
+        Command::Mend(request) => carry_left(alloc, request, down, read_this(alloc, first), out),
         Command::Survive(request) => {
             let texts = read_with_risks(alloc, request.risks.is_some(), first, second);
             carry_left(alloc, request, down, texts, out)
@@ -88,6 +86,7 @@ pub fn down_of(command: &Command) -> Option<&Down>
         Command::Audit(request) => request.down.as_ref(),
         Command::Change(request) => request.down.as_ref(),
         Command::Order(request) => request.down.as_ref(),
+        Command::Mend(request) => request.down.as_ref(),
         Command::Survive(request) => request.down.as_ref(),
         Command::Compare(request) => request.down.as_ref(),
         Command::Page(request) => request.down.as_ref(),
