@@ -4,6 +4,8 @@ use Rattle.std.specs.List.{position, range_with_len}
 use Rattle.std.specs.Option.{option_map_or, option_or}
 use Rattle.tx_plan.specs.Plan.{Plan, exchange_named, group_named, group_name}
 use Rattle.tx_plan.specs.Circuits.{other_end}
+use Rattle.tx_plan.specs.Rules.{IsPlan}
+use Rattle.tx_down.specs.Without.{plan_without}
 use Rattle.tx_trace.specs.Left.{plan_left}
 use Rattle.tx_commands.specs.declared.down.Down.{Down}
 use Rattle.tx_files.specs.declared.fault.CommandFault.{CommandFault}
@@ -31,9 +33,17 @@ is_down p d g =
     option_map_or (is_named (group_name p g)) (option_map string_bytes d.groups) false
     || option_map_or (is_end_of p g) (option_map string_bytes d.exchange) false
 
--- the plan without the groups that are down
+-- the groups that are down
+abbrev pub groups_down : Down → Plan → List ℕ
+groups_down d p = filter (is_down p d) (range_with_len 0 (length p.groups))
+
+-- the plan without them in its lists
 abbrev pub plan_while : Down → Plan → Plan
-plan_while d p = plan_left p (filter (is_down p d) (range_with_len 0 (length p.groups)))
+plan_while d p = plan_left p (groups_down d p)
+
+-- the plan without them in its network too: no list can have them
+abbrev pub plan_up : Down → Plan → Plan
+plan_up d p = plan_without p (groups_down d p)
 
 -- WHAT NO PLAN HAS
 
@@ -101,6 +111,17 @@ module _ {A : Type 0} where
   -- the text stays
   abbrev pub text_while : Down → PlanText A → PlanText A
   text_while d t = record t { plan = plan_while d t.plan }
+
+  -- of a plan for which lists are found
+  abbrev pub plan_said : PlanText A → Plan × Plan
+  plan_said t = (t.plan, t.plan)
+
+  abbrev pub IsTextLeft : Down → PlanText A → PlanText A → Type 0
+  IsTextLeft d t l = l ≡ record t { plan = plan_up d t.plan }
+
+  -- its plan obeys the rules
+  abbrev pub HasRules : PlanText A → Type 0
+  HasRules t = IsPlan t.plan
 
   -- of a plan with its risks
   abbrev pub plan_at_risk : PlanRisks A → Plan × Plan

@@ -6,7 +6,7 @@ ghost use Rattle.tx_plan.specs.Plan.{Plan as PlanNow, group_name};
 ghost use Rattle.tx_plan.specs.Rules.{IsPlan};
 ghost use Rattle.tx_commands.specs.declared.down.Down.{Down as DownNow};
 ghost use Rattle.tx_files.specs.Faults.{memory_stop};
-ghost use Rattle.tx_files.specs.Left.{is_end_of, is_down, plan_while, lack_exchange, lack_group, missing_exchange, missing_group, missing_down, IsRefusedFor, IsLeft, one_plan, IsPlanLeft, text_while, plan_at_risk, IsLeftAtRisk, two_plans, AreLeft, plans_at_risk, AreLeftAtRisk, page_plans, IsLeftForPage};
+ghost use Rattle.tx_files.specs.Left.{is_end_of, is_down, groups_down, plan_while, plan_up, plan_said, IsTextLeft, HasRules, lack_exchange, lack_group, missing_exchange, missing_group, missing_down, IsRefusedFor, IsLeft, one_plan, IsPlanLeft, text_while, plan_at_risk, IsLeftAtRisk, two_plans, AreLeft, plans_at_risk, AreLeftAtRisk, page_plans, IsLeftForPage};
 ghost use Rattle.tx_files.specs.Names.{names_in, is_named};
 ghost use Rattle.tx_files.specs.PageReading.{AreForPage};
 ghost use Rattle.tx_files.specs.Reading.{HasItsRisks};
@@ -20,6 +20,8 @@ use crate::reading::PlanRisks;
 use crate::two_plans::{PlanText, PlansRisks, TwoPlans, joined_of};
 use std::alloc::Allocator;
 use tx_commands::Down;
+use tx_down::plan_without;
+use tx_jobs::JobFault;
 use tx_plan::{GroupId, Plan};
 use tx_text::NoMemory;
 use tx_trace::plan_left;
@@ -63,8 +65,7 @@ fn groups_down<A: Allocator + Copy>(
     plan: &Plan<A>,
     down: &Down,
 ) -> Result<Vec<GroupId, A>, NoMemory>
-    ensures { IfOk result (λ groups. groups.items
-        ≡ filter (is_down plan.now down.now) (range_with_len 0 (length plan.now.groups))) }
+    ensures { IfOk result (λ groups. groups.items ≡ groups_down down.now plan.now) }
 {
     let mut groups = Vec::new(alloc);
     for index in 0..plan.groups() {
@@ -89,6 +90,26 @@ fn plan_while<A: Allocator + Copy>(
     let left = plan_left(alloc, plan, &groups)?;
     left.rules();
     Ok(left)
+}
+
+/// The plan without the groups that are down, in its network too.
+fn plan_up<A: Allocator + Copy>(
+    alloc: A,
+    plan: &Plan<A>,
+    down: &Down,
+) -> Result<Plan<A>, CommandFault>
+    ensures left { IfOk result (λ left. left ≡ plan_up down.now plan.now) }
+    ensures rules { IfOk result IsPlan }
+    ensures refused { IfErr result (λ fault. fault ≡ memory_stop) }
+{
+    let groups = groups_down(alloc, plan, down)?;
+    match plan_without(alloc, plan, &groups) {
+        Ok(left) => {
+            left.rules();
+            Ok(left)
+        }
+        Err(_) => Err(CommandFault::Job(JobFault::NoMemory)),
+    }
 }
 
 /// Whether neither plan has an exchange of this name.
@@ -223,6 +244,25 @@ impl<A: Allocator + Copy> PlansRead<A> for Plan<A> {
 
     fn leave_out(self, alloc: A, down: &Down) -> Result<Self, CommandFault> {
         Ok(plan_while(alloc, self, down)?)
+    }
+}
+
+/// A plan for which lists are found, so these have no group that is down either.
+impl<A: Allocator + Copy> PlansRead<A> for PlanText<A> {
+    ghost plans = { plan_said };
+
+    ghost known = { HasRules };
+
+    ghost left = { IsTextLeft };
+
+    fn plans(&self) -> (&Plan<A>, &Plan<A>) {
+        (&self.plan, &self.plan)
+    }
+
+    fn leave_out(self, alloc: A, down: &Down) -> Result<Self, CommandFault> {
+        let PlanText { text, plan } = self;
+        let plan = plan_up(alloc, &plan, down)?;
+        Ok(PlanText { text, plan })
     }
 }
 

@@ -28,6 +28,6 @@ pub use reading::{PlanRisks, read_one, read_with_risks};
 pub use revising::text_if_asked;
 pub use stopped::read_stopped;
 pub use two_plans::{
-    PlanText, PlansRisks, TwoPlans, Which, WithOld, joined_of, read_plans, read_plans_with_risks,
-    read_whole, read_with_old,
+    PlanText, PlansRisks, TwoPlans, WithOld, joined_of, read_plans, read_plans_with_risks,
+    read_this, read_with_old,
 };

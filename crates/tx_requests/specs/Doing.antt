@@ -13,7 +13,7 @@ use Rattle.tx_files.specs.declared.ending.Ending.{Ending}
 use Rattle.tx_files.specs.declared.fault.CommandFault.{CommandFault}
 use Rattle.tx_files.specs.declared.two_plans.Which.TheVariants.{This}
 use Rattle.tx_files.specs.Ending.{EndsWith, EndsWell}
-use Rattle.tx_files.specs.Left.{ReadsLeft, one_plan, IsPlanLeft, plan_at_risk, IsLeftAtRisk, two_plans, AreLeft, plans_at_risk, AreLeftAtRisk, page_plans, IsLeftForPage}
+use Rattle.tx_files.specs.Left.{ReadsLeft, one_plan, IsPlanLeft, plan_said, IsTextLeft, plan_at_risk, IsLeftAtRisk, two_plans, AreLeft, plans_at_risk, AreLeftAtRisk, page_plans, IsLeftForPage}
 use Rattle.tx_files.specs.PageReading.{ReadsForPage}
 use Rattle.tx_files.specs.Reading.{ReadsPlan, ReadsWithRisks}
 use Rattle.tx_files.specs.Stopped.{ReadsStopped}
@@ -42,6 +42,7 @@ abbrev pub down_of : Command → Option Down
 down_of (Audit r) = r.down
 down_of (Change r) = r.down
 down_of (Order r) = r.down
+down_of (Mend r) = r.down
 down_of (Survive r) = r.down
 down_of (Compare r) = r.down
 down_of (Page r) = r.down
@@ -103,7 +104,8 @@ module _ {P W : Type 0} (rest : P → Option (List ℕ)) (failed : P → Bool)
         (ReadsStopped r.stopped (is_some r.done) first second third)) OrderAnswers
         order_prints OrderEnds r result
     IsDone (Mend r) result =
-        ByRequest (ReadsWhole This first) MendAnswers mend_prints MendEnds r result
+        ByRequest (ReadsLeft plan_said IsTextLeft r.down (ReadsWhole This first)) MendAnswers
+        mend_prints MendEnds r result
         × second.unread × third.unread
     IsDone (Survive r) result =
         ByRequest (ReadsLeft plan_at_risk IsLeftAtRisk r.down

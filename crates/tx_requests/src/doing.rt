@@ -12,10 +12,9 @@ use crate::linting::do_lint;
 use crate::running::{do_check, do_codes, do_pipe, do_run, do_telling};
 use std::alloc::Allocator;
 use tx_commands::{Command, Down};
-use tx_files::Which::This;
 use tx_files::{
     CommandFault, Ending, read_for_page, read_one, read_plans, read_plans_with_risks, read_stopped,
-    read_whole, read_with_old, read_with_risks,
+    read_this, read_with_old, read_with_risks,
 };
 use tx_text::{Sink, Source};
 
@@ -56,7 +55,7 @@ pub fn do_command<A: Allocator + Copy, P: Source, Q: Source, R: Source, W: Sink>
             let texts = read_stopped(alloc, request.stopped, done, first, second, third);
             carry_left(alloc, request, down, texts, out)
         }
-        Command::Mend(request) => carry_out(alloc, request, read_whole(alloc, This, first), out),
+        Command::Mend(request) => carry_left(alloc, request, down, read_this(alloc, first), out),
         Command::Survive(request) => {
             let texts = read_with_risks(alloc, request.risks.is_some(), first, second);
             carry_left(alloc, request, down, texts, out)
@@ -89,6 +88,7 @@ pub fn down_of(command: &Command) -> Option<&Down>
         Command::Audit(request) => request.down.as_ref(),
         Command::Change(request) => request.down.as_ref(),
         Command::Order(request) => request.down.as_ref(),
+        Command::Mend(request) => request.down.as_ref(),
         Command::Survive(request) => request.down.as_ref(),
         Command::Compare(request) => request.down.as_ref(),
         Command::Page(request) => request.down.as_ref(),

@@ -1,5 +1,15 @@
 use Rattle.tx_requests.proofs.Common.{refl, uncalled}
+use Rattle.std.specs.Prelude.{IfOk, Result, Ok, Err}
+use Rattle.tx_files.specs.declared.fault.CommandFault.{CommandFault}
+use Rattle.tx_files.specs.declared.two_plans.PlanText.{PlanText}
+use Rattle.tx_files.specs.Left.{HasRules}
+use Rattle.tx_files.specs.TwoPlans.{IsSaid}
 use Rattle.tx_requests.proofs.doing.do_command.Goals as goal
+
+-- the plan of a text that says it obeys the rules
+rules_known : {A : Type 0} (read : Result (PlanText A) CommandFault) → IfOk read IsSaid → IfOk read HasRules
+rules_known (Ok t) said = said.rules
+rules_known (Err fault) said = tt
 
 pub returns-in-Pipe-clause-done : goal.returns-in-Pipe-clause-done
 returns-in-Pipe-clause-done g c = rw c.in-Pipe.is (c.do_pipe.ensures, refl, refl)
@@ -78,13 +88,18 @@ returns-in-Order-clause-done g c =
     rw c.in-Order.is
     (record { texts = e.0; read = (c.read_stopped-texts.result, rw c.is_some-done.ensures at c.read_stopped-texts.ensures.texts, rw is at e.1); carried = e.2 })
 
-pub carry_out-requires : goal.carry_out-requires
-carry_out-requires g c = c.read_whole.ensures.known
+pub carry_left-requires-in-Mend-clause-read : goal.carry_left-requires-in-Mend-clause-read
+carry_left-requires-in-Mend-clause-read g c = rules_known c.read_this.result c.read_this.ensures.known
+
+pub carry_left-requires-in-Mend-clause-known : goal.carry_left-requires-in-Mend-clause-known
+carry_left-requires-in-Mend-clause-known g c = λ t known. known
 
 pub returns-in-Mend-clause-done : goal.returns-in-Mend-clause-done
 returns-in-Mend-clause-done g c =
+    let is = rw c.in-Mend.is at c.down_of-down.ensures in
+    let e = c.carry_left-in-Mend.ensures in
     rw c.in-Mend.is
-    (record { texts = c.read_whole.result; read = c.read_whole.ensures.text; carried = c.carry_out.ensures }, refl, refl)
+    (record { texts = e.0; read = (c.read_this.result, c.read_this.ensures.text, rw is at e.1); carried = e.2 }, refl, refl)
 
 pub returns-in-Mend-clause-second_calls : goal.returns-in-Mend-clause-second_calls
 returns-in-Mend-clause-second_calls g c = uncalled g.Q.Source.called c.args.second.now
