@@ -92,19 +92,10 @@ impl Command {
                 script: request.counter.as_deref(),
                 ..Files::of_two(&request.old, &request.new)
             },
-            Command::Order(
-                OrderRequest {
-                    old,
-                    new,
-                    plan,
-                    cert,
-                    done,
-                    ..
-                },
-            ) => Files {
-                plan: plan.as_deref(),
-                cert: cert.as_deref(),
-                ..Files::reading([Some(old), Some(new), done.as_deref()])
+            Command::Order(order) => Files {
+                plan: order.plan.as_deref(),
+                cert: order.cert.as_deref(),
+                ..Files::reading([Some(&order.old), Some(&order.new), order.done.as_deref()])
             },
             Command::Mend(request) => Files {
                 plan: request.mended.as_deref(),

@@ -57,7 +57,8 @@ fn resume<A: Allocator + Copy, R: Source>(
     ensures calls { CallsAtMost R.called source_calls done.old done.new }
 {
     let TwoPlans { old, new, joined } = texts;
-    let target = target_of(joined_of(alloc, &old, &new)?, stopped.back);
+    let again = joined_of(alloc, &old, &new)?;
+    let target = target_of(again, stopped.back);
     let plan = plan_where(alloc, stopped, named, joined, done)?;
     let old = PlanText {
         text: old.text,

@@ -1,0 +1,25 @@
+use Rattle.std.proofs.Common.{refl, inl, inr}
+use Rattle.tx_text.proofs.Exits.{exits_with}
+use Rattle.tx_files.specs.Faults.{memory_stop}
+use Rattle.tx_files.proofs.Uncalled.{uncalled}
+use Rattle.tx_files.proofs.stopped.plan_where.Goals as goal
+
+pub order-requires : goal.order-requires
+order-requires g c = c.requires
+
+pub returns-in_err-order-clause-plan : goal.returns-in_err-order-clause-plan
+returns-in_err-order-clause-plan g c =
+    rw (exits_with c.from_residual.result memory_stop c.from_residual.ensures.1) (inl refl)
+
+pub returns-in_err-order-clause-calls : goal.returns-in_err-order-clause-calls
+returns-in_err-order-clause-calls g c = uncalled g.R.Source.called c.args.done.now
+
+pub returns-in-Ordered-clause-plan : goal.returns-in-Ordered-clause-plan
+returns-in-Ordered-clause-plan g c =
+    inr (_, c.in_ok-order.ensures.right, rw c.in-Ordered.is c.plan_in.ensures.plan)
+
+pub returns-in-NoOrder-clause-plan : goal.returns-in-NoOrder-clause-plan
+returns-in-NoOrder-clause-plan g c = inr (_, c.in_ok-order.ensures.right, rw c.in-NoOrder.is refl)
+
+pub returns-in-NoOrder-clause-calls : goal.returns-in-NoOrder-clause-calls
+returns-in-NoOrder-clause-calls g c = uncalled g.R.Source.called c.args.done.now
