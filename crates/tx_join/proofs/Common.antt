@@ -42,7 +42,6 @@ pub use Rattle.tx_plan.specs.declared.range.LineRange.{LineRange}
 pub use Rattle.tx_plantext.specs.PlanWritten.{bar_words, route_words}
 pub use Rattle.tx_text.proofs.Exits.{exits_with}
 pub use Rattle.tx_text.proofs.Putting.{puts_is, puts_none, puts_then}
-pub use Rattle.tx_text.proofs.Ranges.{lines_done, lines_more}
 pub use Rattle.tx_text.specs.Puts.{Puts}
 pub use Rattle.tx_text.specs.Words.{is_name}
 pub use Rattle.tx_text.specs.Written.{line_written}

@@ -153,8 +153,6 @@ pub(crate) fn do_codes<A: Allocator + Copy, P: Source, W: Sink>(
         (λ pair. EndsWith (pair_status pair)) (W.failed out.old) (W.failed out.new) result }
     ensures first_calls { CallsAtMost P.called source_calls first.old first.new }
 {
-    match codes_job(alloc, first, out)? {
-        Some(_) => Ok(Ending::of(1)),
-        None => Ok(Ending::of(0)),
-    }
+    let pair = codes_job(alloc, first, out)?;
+    Ok(Ending::of(u8::from(pair.is_some())))
 }
