@@ -2,3 +2,4 @@ mod Taking
 mod Over
 mod Rules
 mod NextRoute
+pub mod Common

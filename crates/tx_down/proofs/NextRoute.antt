@@ -1,9 +1,8 @@
 -- One group of a list more, and one route more.
 use Rattle.std.proofs.Common.{◌≡◌, ◌≢◌, ℕ, ◌+◌, Bool, true, false, cond, not, ◌||◌, ◌&&◌, ◌==◌, List, [], ◌∷◌, ◌++◌, map, take, length, Option, Some, None, refl, sym, ap, ◌∙◌, append-nil}
 use Rattle.tx_join.proofs.Common.{filter, slice_get, list_any, map-append, filter-append, Plan, Route, take_next, group_name, group_named}
-use Rattle.std.specs.List.{filter_map, cons_option}
+use Rattle.tx_down.proofs.Common.{filter_map, cons_option, list_over, route_over}
 use Rattle.std.proofs.lemmas.List.Elements.{filter_map-append}
-use Rattle.tx_down.specs.Without.{list_over, route_over}
 use Rattle.tx_down.proofs.Rules.{has_some}
 
 -- GROUPS

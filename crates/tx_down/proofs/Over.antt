@@ -1,13 +1,12 @@
 -- The groups of a list that are left in the network without some, as they are known there.
 use Rattle.std.proofs.Common.{◌≡◌, ◌≢◌, ℕ, suc, ◌<◌, ◌≤◌, Bool, true, false, not, List, [], ◌∷◌, length, Option, Some, None, refl, sym, ap, ◌∙◌, subst, arith, unwrap_or, is_some}
 use Rattle.tx_join.proofs.Common.{same_Some, list_any, AllByRecursion, bytes_eq, bytes_eq-Decides, filter, find, position, slice_get, option_map_or, Plan, Group, EachPair, IsPlan, group_name, group_named, all_pass, all_at, group_back, may_seize, slice_get_within}
-use Rattle.std.specs.List.{filter_map, cons_option}
+use Rattle.tx_down.proofs.Common.{filter_map, cons_option, is_one_of, network_without, list_over}
 use Rattle.tx_plan.specs.Circuits.{may_seize_row}
 use Rattle.tx_plan.proofs.Filtered.{find_in}
 use Rattle.tx_plan.proofs.Lists.{found_any}
 use Rattle.tx_join.proofs.Found.{entry_found}
 use Rattle.tx_join.proofs.Taking.{seized}
-use Rattle.tx_down.specs.Without.{is_one_of, network_without, list_over}
 
 same_word : (w z : List ℕ) → bytes_eq w z ≡ true → w ≡ z
 same_word w z h = (bytes_eq-Decides w z).0 h

@@ -3,7 +3,7 @@ use Rattle.std.proofs.Common.{◌≡◌, ◌≢◌, ℕ, suc, ◌+◌, ◌<◌, 
 use Rattle.tx_join.proofs.Common.{same_Some, list_any, AllByRecursion, bytes_eq, nat_tests, take-append-drop, is_name, filter, slice_get, option_map_or, LineRange, Plan, Code, Group, Direction, OneWay, EachPair, IsPlan, IsCode, IsGroup, IsRange, exchange_named, code_named, exchange_name, figures_of, group_name, home_of, ends_of, direction_of, count_of, all_kept, entry_at, all_at, take_next, exchange_back, code_back, first_true, exchange_refusals, code_refusals, lines_refusals, group_refusals, with_exchange, with_code, with_lines, with_group, and_parts, and_from, false_from_ne_true, true≢false}
 use Rattle.std.proofs.lemmas.Bool.{leb-true}
 use Rattle.std.proofs.lemmas.List.Sums.{length-filter, count_by-le-length}
-use Rattle.tx_plan.specs.Plan.{no_plan}
+use Rattle.tx_down.proofs.Common.{no_plan, is_one_of, its_exchanges, its_codes, its_ranges}
 use Rattle.tx_plan.specs.Rules.{AreSeparate}
 use Rattle.tx_plan.specs.Numbers.{at_most, shares}
 use Rattle.tx_plan.specs.Declaring.{exchange_at, code_at, overlaps}
@@ -13,8 +13,6 @@ use Rattle.tx_plan.proofs.ByIndex.{bytes_apart}
 use Rattle.tx_plan.proofs.NamesBack.{exchange_is_name, figures_are_code}
 use Rattle.tx_join.proofs.Found.{kept_next, left_next, drop_next, pairs_before, length_before}
 use Rattle.tx_join.proofs.NextDeclared.{exchange_free, code_free, lines_free, group_free}
-use Rattle.tx_down.specs.Without.{is_one_of}
-use Rattle.tx_down.specs.inner.Stages.{its_exchanges, its_codes, its_ranges}
 
 -- WHERE NOTHING REFUSES
 

@@ -7,7 +7,6 @@ pub use Rattle.std.proofs.lemmas.Iterator.Splits.{YieldsList-from_str_split}
 pub use Rattle.std.proofs.lemmas.List.{length_push}
 pub use Rattle.std.specs.List.{AllByRecursion}
 pub use Rattle.std.specs.Prelude.{IfSome, if◌then◌else◌}
-pub use Rattle.std.specs.Str.{bytes_eq}
 pub use Rattle.tx_files.proofs.Uncalled.{uncalled}
 pub use Rattle.tx_files.specs.Names.{names_in}
 pub use Rattle.tx_files.specs.Faults.{memory_stop, risks_stop, text_stop, write_stop}

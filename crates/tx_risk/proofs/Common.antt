@@ -8,7 +8,7 @@ pub use Rattle.std.proofs.lemmas.List.Sorted.{IsPartitionPoint-from_clause}
 pub use Rattle.std.proofs.lemmas.Option.{none-some, same_Some, slice_get-get_or, slice_get_read, slice_get_within}
 pub use Rattle.std.specs.List.{AllByRecursion, filter_map, list_any, range_with_len}
 pub use Rattle.std.specs.Option.{option_and_then, option_map_or}
-pub use Rattle.std.specs.Prelude.{IsPermutation, filter, find, if◌then◌else◌, is_none, is_some, replicate, slice_get, unwrap_or}
+pub use Rattle.std.specs.Prelude.{IsPermutation, filter, find, if◌then◌else◌, is_none, is_some, replicate, slice_get}
 pub use Rattle.std.specs.Str.{bytes_eq}
 pub use Rattle.tx_cert.specs.Certificate.{ranks_of}
 pub use Rattle.tx_machine.proofs.Invariant.{inv_opening}
@@ -70,7 +70,7 @@ pub use Rattle.tx_risk.specs.inner.Hits.{AreEnds, TakesItsGroups, is_emptied}
 pub use Rattle.tx_risk.specs.inner.InOrder.{comes_before}
 pub use Rattle.tx_risk.specs.inner.Left.{IsLeft, Left, gone, left_net}
 pub use Rattle.tx_risk.specs.inner.Marked.{marked}
-pub use Rattle.tx_risk.specs.inner.Nearest.{AreAllWays, AreDeadEnds, AreDeadEndsKept, AreWaysFrom, Grows, LeadsToDeadEnd, dead_end_at, distance_in, has_way_home, home_alone, nearest_step, ways_in}
+pub use Rattle.tx_risk.specs.inner.Nearest.{AreAllWays, AreDeadEnds, AreDeadEndsKept, AreWaysFrom, Grows, LeadsToDeadEnd, dead_end_at, has_way_home, home_alone, nearest_step, ways_in}
 pub use Rattle.tx_risk.specs.inner.Orders.{IsByRank, IsOrder, is_above, rank_or_0}
 pub use Rattle.tx_risk.specs.inner.Rows.{risk_of_row}
 pub use Rattle.tx_text.proofs.Exits.{exits_with}

@@ -1,8 +1,5 @@
-use Rattle.std.proofs.Common.{◌∙◌, ap, arith}
+use Rattle.tx_down.proofs.Common.{◌∙◌, ap, arith, exits_with, taken_last, its_exchanges}
 use Rattle.tx_plan.specs.Plan.{exchange_name, figures_of, home_of}
-use Rattle.tx_text.proofs.Exits.{exits_with}
-use Rattle.tx_join.proofs.Found.{taken_last}
-use Rattle.tx_down.specs.inner.Stages.{its_exchanges}
 use Rattle.tx_down.proofs.Taking.{code_fits, code_added, out_of_memory}
 use Rattle.tx_down.proofs.network.add_codes.Goals as goal
 

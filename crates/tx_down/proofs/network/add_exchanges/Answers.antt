@@ -1,7 +1,4 @@
-use Rattle.std.proofs.Common.{◌∙◌, ap, arith}
-use Rattle.tx_plan.specs.Plan.{no_plan, exchange_name}
-use Rattle.tx_text.proofs.Exits.{exits_with}
-use Rattle.tx_join.proofs.Found.{taken_last}
+use Rattle.tx_down.proofs.Common.{◌∙◌, ap, arith, no_plan, exchange_name, exits_with, taken_last}
 use Rattle.tx_down.proofs.Taking.{exchange_fits, exchange_added, out_of_memory}
 use Rattle.tx_down.proofs.network.add_exchanges.Goals as goal
 

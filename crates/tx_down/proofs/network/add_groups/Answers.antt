@@ -1,7 +1,6 @@
-use Rattle.std.proofs.Common.{◌∙◌, ℕ, ap, sym, arith}
+use Rattle.tx_down.proofs.Common.{◌∙◌, ℕ, ap, sym, arith, exits_with}
 use Rattle.tx_plan.specs.Plan.{exchange_name, group_name}
 use Rattle.tx_plan.specs.Circuits.{ends_of, direction_of, count_of}
-use Rattle.tx_text.proofs.Exits.{exits_with}
 use Rattle.tx_down.proofs.Taking.{group_fits, group_added, group_left, out_of_memory}
 use Rattle.tx_down.proofs.network.add_groups.Goals as goal
 use Rattle.tx_down.proofs.network.add_groups.Goals.{then-not-is_one_of+in_ok-group, else-not-is_one_of}

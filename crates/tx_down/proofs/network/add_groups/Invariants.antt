@@ -1,7 +1,5 @@
-use Rattle.std.proofs.Common.{◌≡◌, not, take}
+use Rattle.tx_down.proofs.Common.{◌≡◌, not, take, is_one_of, its_ranges}
 use Rattle.std.specs.Prelude.{filter}
-use Rattle.tx_down.specs.Without.{is_one_of}
-use Rattle.tx_down.specs.inner.Stages.{its_ranges}
 use Rattle.tx_down.proofs.network.add_groups.Given as goal
 
 abbrev pub invariant-loop-index : goal.invariant-loop-index

@@ -1,9 +1,5 @@
-use Rattle.std.proofs.Common.{◌∙◌, sym, arith}
-use Rattle.tx_join.proofs.Common.{slice_get, entry_at}
-use Rattle.tx_text.proofs.Exits.{exits_with}
-use Rattle.tx_join.proofs.Found.{taken_last}
+use Rattle.tx_down.proofs.Common.{◌∙◌, sym, arith, slice_get, entry_at, exits_with, taken_last, its_codes}
 use Rattle.tx_join.proofs.NextDeclared.{not_none}
-use Rattle.tx_down.specs.inner.Stages.{its_codes}
 use Rattle.tx_down.proofs.Taking.{range_fits, range_added, out_of_memory}
 use Rattle.tx_down.proofs.network.add_ranges.Goals as goal
 

@@ -1,5 +1,4 @@
-use Rattle.std.proofs.Common.{◌≡◌, take}
-use Rattle.tx_down.specs.inner.Stages.{its_codes}
+use Rattle.tx_down.proofs.Common.{◌≡◌, take, its_codes}
 use Rattle.tx_down.proofs.network.add_ranges.Given as goal
 
 abbrev pub invariant-loop-index : goal.invariant-loop-index

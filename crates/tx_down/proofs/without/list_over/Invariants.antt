@@ -1,5 +1,4 @@
-use Rattle.std.proofs.Common.{◌≡◌, ◌≤◌, length, take}
-use Rattle.tx_down.specs.Without.{list_over}
+use Rattle.tx_down.proofs.Common.{◌≡◌, ◌≤◌, length, take, list_over}
 use Rattle.tx_down.proofs.without.list_over.Given as goal
 
 abbrev pub invariant-loop-group : goal.invariant-loop-group

@@ -1,7 +1,5 @@
-use Rattle.std.proofs.Common.{◌≡◌, ◌==◌, ◌∙◌, List, ℕ, true, false, not, ap, sym, arith, take, map, length, refl, rules}
-use Rattle.tx_join.proofs.Common.{slice_get, list_any, Route, entry_at}
+use Rattle.tx_down.proofs.Common.{◌≡◌, ◌==◌, ◌∙◌, List, ℕ, true, false, not, ap, sym, arith, take, map, length, refl, rules, slice_get, list_any, Route, entry_at, route_over}
 use Rattle.tx_plan.proofs.Copied.{pair_of, no_none, none_before, none_filtered, route_got}
-use Rattle.tx_down.specs.Without.{route_over}
 use Rattle.tx_down.proofs.Rules.{has_some}
 use Rattle.tx_down.proofs.NextRoute.{route_next, route_gone, none_over}
 use Rattle.tx_down.proofs.without.routes_over.Goals as goal
