@@ -39,7 +39,7 @@ module _ {A : Type 0} where
 
   -- where an order was stopped is a plan of the network
   stopped_same : (old new p : Plan) (s : Stopped) (named : Bool) (text : Input)
-      → StopsAt {A = A} old new s named text (Ok p) → SameNetwork old p
+      → StopsAt A old new s named text (Ok p) → SameNetwork old p
   stopped_same old new p s named text (inl e) = absurd (let bad : ⊥ = cc in bad)
   stopped_same old new p s named text (inr (Ordered o, right, (there, done, read, at))) =
       same_along old _ p (right.order.mixtures _).network at.mixture.network
@@ -48,7 +48,7 @@ module _ {A : Type 0} where
 
   -- so it is joined with the plan to which the order leads
   pub joins_target : (p q : Plan) (j : Joined A) (s : Stopped) (named : Bool) (text : Input) (at : Plan)
-      → IsJoin p q j → StopsAt {A = A} j.old j.new s named text (Ok at) → IsPlan at
+      → IsJoin p q j → StopsAt A j.old j.new s named text (Ok at) → IsPlan at
       → join_refusal at (target_of s.back j) ≡ None
   joins_target p q j s named text at a stops ok =
       let same = stopped_same j.old j.new at s named text stops in

@@ -49,13 +49,14 @@ module _ {A : Type 0} where
   StopsBy s named text (Ordered o) result = StopsIn s named text o result
   StopsBy s named text (NoOrder p before after) result = result ≡ Err (NoSuchStage 0)
 
-  -- the same of an order that was begun between two plans, unless memory ran out
-  abbrev pub StopsAt : (old new : Plan) → Stopped → (named : Bool) → Input
-      → Result Plan CommandFault → Type 0
-  StopsAt old new s named text result = (result ≡ Err memory_stop)
-      ⊎ ((begun : Switching A) × IsRightSwitching old new s.limits.limit s.limits.spare begun
-      × StopsBy s named text begun result)
+-- the same of an order that was begun between two plans, unless memory ran out
+abbrev pub StopsAt : (A : Type 0) → (old new : Plan) → Stopped → (named : Bool) → Input
+    → Result Plan CommandFault → Type 0
+StopsAt A old new s named text result = (result ≡ Err memory_stop)
+    ⊎ ((begun : Switching A) × IsRightSwitching old new s.limits.limit s.limits.spare begun
+    × StopsBy s named text begun result)
 
+module _ {A : Type 0} where
   -- the plan to which the order leads from there, over the joined network
   abbrev pub target_of : (back : Bool) → Joined A → Plan
   target_of true j = j.old
@@ -64,7 +65,7 @@ module _ {A : Type 0} where
   -- the plan where the order was stopped, and the one to which it leads from there
   pub record IsResumed (s : Stopped) (named : Bool) (t : TwoPlans A) (text : Input) (l : TwoPlans A)
       : Type 0 where
-    pub stops : StopsAt t.joined.old t.joined.new s named text (Ok l.old.plan)
+    pub stops : StopsAt A t.joined.old t.joined.new s named text (Ok l.old.plan)
     pub old_text : l.old.text ≡ t.old.text
     pub new : l.new ≡ record t.new { plan = target_of s.back t.joined }
     pub joined : IsJoin l.old.plan l.new.plan l.joined
@@ -72,7 +73,7 @@ module _ {A : Type 0} where
   abbrev pub Resumes : Stopped → (named : Bool) → TwoPlans A → Input
       → Result (TwoPlans A) CommandFault → Type 0
   Resumes s named t text (Ok l) = IsResumed s named t text l
-  Resumes s named t text (Err fault) = StopsAt t.joined.old t.joined.new s named text (Err fault)
+  Resumes s named t text (Err fault) = StopsAt A t.joined.old t.joined.new s named text (Err fault)
 
   -- the plans of the first two texts, joined; or, if an order between them was stopped, what it
   -- leads on or back from

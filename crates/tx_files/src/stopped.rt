@@ -88,7 +88,7 @@ fn plan_where<A: Allocator + Copy, R: Source>(
     done: &mut R,
 ) -> Result<Plan<A>, CommandFault>
     requires { SameNetwork joined.old joined.new }
-    ensures plan { StopsAt joined.old joined.new stopped named
+    ensures plan { StopsAt A joined.old joined.new stopped named
         (input R.rest R.failed R.called done.old done.new) result }
     ensures rules { IfOk result IsPlan }
     ensures calls { CallsAtMost R.called source_calls done.old done.new }

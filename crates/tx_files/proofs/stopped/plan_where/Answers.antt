@@ -5,7 +5,7 @@ use Rattle.tx_files.proofs.Uncalled.{uncalled}
 use Rattle.tx_files.proofs.stopped.plan_where.Goals as goal
 
 pub order-requires : goal.order-requires
-order-requires g c = c.requires
+order-requires g c = record { network = c.requires }
 
 pub returns-in_err-order-clause-plan : goal.returns-in_err-order-clause-plan
 returns-in_err-order-clause-plan g c =
@@ -18,8 +18,8 @@ pub returns-in-Ordered-clause-plan : goal.returns-in-Ordered-clause-plan
 returns-in-Ordered-clause-plan g c =
     inr (_, c.in_ok-order.ensures.right, rw c.in-Ordered.is c.plan_in.ensures.plan)
 
-pub returns-in-NoOrder-clause-plan : goal.returns-in-NoOrder-clause-plan
-returns-in-NoOrder-clause-plan g c = inr (_, c.in_ok-order.ensures.right, rw c.in-NoOrder.is refl)
+pub returns-clause-plan : goal.returns-clause-plan
+returns-clause-plan g c = inr (_, c.in_ok-order.ensures.right, rw c.in-NoOrder.is refl)
 
-pub returns-in-NoOrder-clause-calls : goal.returns-in-NoOrder-clause-calls
-returns-in-NoOrder-clause-calls g c = uncalled g.R.Source.called c.args.done.now
+pub returns-clause-calls : goal.returns-clause-calls
+returns-clause-calls g c = uncalled g.R.Source.called c.args.done.now

@@ -9,8 +9,8 @@ use Rattle.tx_files.proofs.StoppedTexts.{same_target, target_rules, joins_target
 use Rattle.tx_files.proofs.Uncalled.{uncalled}
 use Rattle.tx_files.proofs.stopped.resume.Goals as goal
 
-pub plan_where-plan-requires : goal.plan_where-plan-requires
-plan_where-plan-requires g c = c.requires.joined.network.same
+pub plan_where-requires : goal.plan_where-requires
+plan_where-requires g c = c.requires.joined.network.same
 
 pub returns-in_err-again-clause-texts : goal.returns-in_err-again-clause-texts
 returns-in_err-again-clause-texts g c =
@@ -30,7 +30,7 @@ pub returns-in_err-joined-clause-texts : goal.returns-in_err-joined-clause-texts
 returns-in_err-joined-clause-texts g c =
     let t = c.args.texts in
     let f = c.in_err-joined.field-0.0 in
-    let text = input g.R.Source.rest g.R.Source.failed g.R.Source.called c.args.done.now c.plan_where-plan.new.done in
+    let text = input g.R.Source.rest g.R.Source.failed g.R.Source.called c.args.done.now c.plan_where.new.done in
     let is : c.target_of-target.result ≡ target_of c.args.stopped.back t.joined = c.target_of-target.ensures
         ∙ same_target t.old.plan t.new.plan t.joined c.in_ok-again.again c.args.stopped.back c.requires.joined c.in_ok-again.ensures.joined in
     let none : join_refusal c.in_ok-plan.plan c.target_of-target.result ≡ None =
