@@ -461,6 +461,12 @@ def evidence_of(example):
     return b"".join(map(read, made[0])) if made else b""
 
 
+def prints_of(example):
+    """What the case of an example prints. On a page the old plan has the name that it has there."""
+    old = dict(zip(example.words, example.words[1:])).get("--from") if example.words[:1] == ["page"] else None
+    return read(out_of(example)).replace(f"<b>{old}</b>, the plan before".encode(), b"<b>old</b>, the plan before")
+
+
 def cases():
     """Each example as a case. Two examples that come to the same case are one."""
     seen = set()
@@ -470,7 +476,7 @@ def cases():
             seen.add(case)
             kind, text = case
             text += b"" if text.endswith(b"\n") else b"{}\n"
-            yield f"=== example-{example.name} {kind}\n".encode() + text + b"--- prints\n" + read(out_of(example)) + evidence_of(example)
+            yield f"=== example-{example.name} {kind}\n".encode() + text + b"--- prints\n" + prints_of(example) + evidence_of(example)
 
 
 def write_cases():

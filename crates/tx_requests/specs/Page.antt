@@ -75,11 +75,14 @@ abbrev pub if_both : (old new : Option Bounds) → ℕ → Option ℕ
 if_both old new n = option_and_then (λ b. if_graded new n) old
 
 -- the date and the time of day of a moment, in seconds since 1970, up to the year 9999
+abbrev pub IsDateAt : ℕ → Option (List ℕ) → Type 0
+IsDateAt moment None = 253402300800 ≤ moment
+IsDateAt moment (Some text) = (d : HttpDate) × (unix_secs d ≡ moment) × (text ≡ date_text d)
+
+-- the same, if there is a moment
 abbrev pub IsDateOf : Option ℕ → Option (List ℕ) → Type 0
 IsDateOf None date = date ≡ None
-IsDateOf (Some moment) None = 253402300800 ≤ moment
-IsDateOf (Some moment) (Some text) =
-    (d : HttpDate) × (unix_secs d ≡ moment) × (text ≡ date_text d)
+IsDateOf (Some moment) date = IsDateAt moment date
 
 module _ {A : Type 0} where
   -- the codes of which a page has pictures, in order of declaration

@@ -8,7 +8,7 @@ ghost use Rattle.tx_risk.specs.Compared.{AreInOrder};
 ghost use Rattle.tx_risk.specs.NamedRisks.{AreRisksFor};
 ghost use Rattle.tx_requests.specs.Page.{if_both, IsChangeOf, IsChangeIfAny, IsNoChange, IsFound, AreCounted};
 
-use crate::compare::{Outlook, outlook_of};
+use crate::compare::{Outlook, beside, outlook_of};
 use crate::page_found::Found;
 use std::alloc::{Allocator, Global};
 use tx_files::{CommandFault, PageTexts, PlanText, joined_of};
@@ -17,7 +17,7 @@ use tx_order::{Switching, order};
 use tx_plan::{Limits, Plan};
 use tx_rank::Bounds;
 use tx_risk::{Risks, Side, outages_of};
-use tx_risk_report::{Comparison, count_better_outages, count_worse_outages};
+use tx_risk_report::{count_better_outages, count_worse_outages};
 use tx_text::NoMemory;
 
 /// What is found of the change of a plan into another one.
@@ -113,14 +113,10 @@ fn compare<A: Allocator + Copy>(
         n.0 n.1) }
 {
     let outages = outages_of(alloc, network, risks, false)?;
-    let comparison = Comparison {
-        network,
-        risks,
-        outages: outages.as_slice(),
-        new: Side::new(new, after.outcomes.as_slice()),
-        old: Side::new(old, before.outcomes.as_slice()),
-    };
     let (was, is) = (before.grade.plan, after.grade.plan);
+    let new = Side::new(new, after.outcomes.as_slice());
+    let old = Side::new(old, before.outcomes.as_slice());
+    let comparison = beside(network, risks, outages.as_slice(), new, old);
     let worse = if_both(was, is, count_worse_outages(&comparison));
     let better = if_both(was, is, count_better_outages(&comparison));
     Ok((worse, better))

@@ -1,7 +1,7 @@
 // The change from an old plan, as a page shows it.
 ghost use Rattle.std.specs.Prelude.{◌≡◌, [], string_bytes};
 ghost use Rattle.std.specs.Option.{option_map_or};
-ghost use Rattle.tx_requests.specs.Page.{IsDateOf, IsShownChange, IsSameChange};
+ghost use Rattle.tx_requests.specs.Page.{IsDateAt, IsDateOf, IsShownChange, IsSameChange};
 
 use crate::page::{Paged, title_of};
 use crate::page_change::FoundChange;
@@ -13,12 +13,22 @@ use tx_files::PlanText;
 use tx_page_change::{Change, Outlook};
 
 /// The date and the time of day of a moment, in seconds since 1970, up to the year 9999.
+fn date_at(moment: u64) -> Option<[u8; 29]>
+    ensures { IsDateAt moment result }
+{
+    match HttpDate::from_unix_secs(moment) {
+        Ok(date) => Some(date.to_bytes()),
+        Err(_) => None,
+    }
+}
+
+/// The same, if there is a moment.
 fn date_of(moment: Option<u64>) -> Option<[u8; 29]>
     ensures { IsDateOf moment result }
 {
-    match HttpDate::from_unix_secs(moment?) {
-        Ok(date) => Some(date.to_bytes()),
-        Err(_) => None,
+    match moment {
+        Some(moment) => date_at(moment),
+        None => None,
     }
 }
 
