@@ -101,7 +101,7 @@ pub(crate) fn beside<'a, A: Allocator>(
     new: Side<'a, A>,
     old: Side<'a, A>,
 ) -> Comparison<'a, A>
-    ensures { AreBeside network.now risks.now outages.now new old result }
+    ensures { AreBeside network.now risks.now outages.now new.entry old.entry result }
 {
     Comparison {
         network,
