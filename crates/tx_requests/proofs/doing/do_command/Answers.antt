@@ -168,13 +168,13 @@ returns-in-Grade-clause-second_calls g c = uncalled g.Q.Source.called c.args.sec
 pub returns-in-Grade-clause-third_calls : goal.returns-in-Grade-clause-third_calls
 returns-in-Grade-clause-third_calls g c = uncalled g.R.Source.called c.args.third.now
 
-pub carry_out-requires-in-Trace : goal.carry_out-requires-in-Trace
-carry_out-requires-in-Trace g c = c.read_one-in-Trace.ensures.known
+pub carry_out-requires : goal.carry_out-requires
+carry_out-requires g c = c.read_one-in-Trace.ensures.known
 
 pub returns-in-Trace-clause-done : goal.returns-in-Trace-clause-done
 returns-in-Trace-clause-done g c =
     rw c.in-Trace.is
-    (record { texts = c.read_one-in-Trace.result; read = c.read_one-in-Trace.ensures.text; carried = c.carry_out-in-Trace.ensures }, refl, refl)
+    (record { texts = c.read_one-in-Trace.result; read = c.read_one-in-Trace.ensures.text; carried = c.carry_out.ensures }, refl, refl)
 
 pub returns-in-Trace-clause-second_calls : goal.returns-in-Trace-clause-second_calls
 returns-in-Trace-clause-second_calls g c = uncalled g.Q.Source.called c.args.second.now
