@@ -7,12 +7,9 @@ use Rattle.tx_join.specs.Joined.{joined_new}
 use Rattle.tx_join.specs.Refusals.{join_refusal, IsRefusedAs}
 use Rattle.tx_join.specs.declared.refusal.JoinRefusal.{JoinRefusal}
 use Rattle.tx_join.specs.declared.refusal.JoinRefusal.TheVariants.{NoMemory as JoinNoMemory}
-use Rattle.tx_risk.specs.NamedRisks.{NamedRisk, AreRisksFor}
+use Rattle.tx_files.proofs.Common.{NamedRisk, AreRisksFor, CommandFault, PlanText, memory_stop}
 use Rattle.tx_commands.specs.declared.down.Down.{Down}
-use Rattle.tx_files.specs.declared.fault.CommandFault.{CommandFault}
-use Rattle.tx_files.specs.declared.two_plans.PlanText.{PlanText}
 use Rattle.tx_files.specs.declared.two_plans.TwoPlans.{TwoPlans}
-use Rattle.tx_files.specs.Faults.{memory_stop}
 use Rattle.tx_files.specs.Left.{text_while, AreLeft}
 use Rattle.tx_files.specs.TwoPlans.{join_stop, IsJoin, IsNoJoinOf}
 

@@ -1,16 +1,11 @@
 -- Where an order was stopped, and where it leads from there.
-use Rattle.std.proofs.Common.{◌≡◌, ◌∙◌, ℕ, Bool, true, false, Option, None, Some, Ok, Err, refl, sym, inl, inr}
-use Rattle.tx_text.specs.Ends.{Input}
-use Rattle.tx_plan.specs.Plan.{Plan}
-use Rattle.tx_plan.specs.Rules.{IsPlan}
+use Rattle.tx_files.proofs.Common.{◌≡◌, ◌∙◌, ℕ, Bool, true, false, Option, None, Some, Ok, Err, refl, sym, inl, inr, Input, Plan, IsPlan, join_refusal, CommandFault}
 use Rattle.tx_plan.specs.Mixtures.{SameNetwork}
 use Rattle.tx_plan.proofs.Networks.{same_along, same_back}
 use Rattle.tx_join.specs.declared.joining.Joined.{Joined}
-use Rattle.tx_join.specs.Refusals.{join_refusal}
 use Rattle.tx_join.proofs.OneNetwork.{one_network}
 use Rattle.tx_order.specs.declared.switching.Switching.TheVariants.{Ordered, NoOrder}
 use Rattle.tx_commands.specs.declared.order.Stopped.{Stopped}
-use Rattle.tx_files.specs.declared.fault.CommandFault.{CommandFault}
 use Rattle.tx_files.specs.Stopped.{StopsAt, target_of, ReadsStopped}
 use Rattle.tx_files.specs.TwoPlans.{AreNotJoined, IsJoin}
 

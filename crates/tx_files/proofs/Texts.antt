@@ -1,16 +1,10 @@
 -- What was read of the texts of a request.
-use Rattle.std.proofs.Common.{◌≡◌, Bool, true, false, List, [], Option, None, Some, Ok, Err, refl, sym}
+use Rattle.tx_files.proofs.Common.{◌≡◌, Bool, true, false, List, [], Option, None, Some, Ok, Err, refl, sym, Input, Plan, IsPlan, NamedRisk, AreRisksFor, CommandFault, PlanText}
 use Rattle.std.proofs.lemmas.Bool.{false≢true}
 use Rattle.std.specs.Prelude.{IfSome}
 use Rattle.tx_text.specs.declared.whole_text.WholeTextFault.{WholeTextFault}
 use Rattle.tx_text.specs.declared.whole_text.WholeTextFault.TheVariants.{Read as TextRead, NoMemory as TextNoMemory}
-use Rattle.tx_text.specs.Ends.{Input}
-use Rattle.tx_plan.specs.Plan.{Plan}
-use Rattle.tx_plan.specs.Rules.{IsPlan}
-use Rattle.tx_risk.specs.NamedRisks.{NamedRisk, AreRisksFor}
 use Rattle.tx_risk.proofs.RiskLines.{no_risks}
-use Rattle.tx_files.specs.declared.fault.CommandFault.{CommandFault}
-use Rattle.tx_files.specs.declared.two_plans.PlanText.{PlanText}
 use Rattle.tx_files.specs.PageReading.{ReadsOldIf}
 use Rattle.tx_files.specs.Reading.{RisksRefused, ReadsRisksIf}
 use Rattle.tx_files.specs.TwoPlans.{GivesNoPlan, NotWhole, SaysWhole}

@@ -1,6 +1,7 @@
 pub mod Faults
 pub mod Missing
 pub mod Names
+pub mod Asked
 pub mod FaultLines
 pub mod Reading
 pub mod Writables

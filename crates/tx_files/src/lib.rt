@@ -1,6 +1,7 @@
 //! What commands read, why they stop, and what goes into the files that they make.
 #![tactic(auto)]
 
+mod asked;
 mod content;
 mod ending;
 mod fault;
@@ -15,6 +16,7 @@ mod revising;
 mod stopped;
 mod two_plans;
 
+pub use asked::{asked_of, passed_of};
 pub use content::{Content, write_content};
 pub use ending::Ending;
 pub use fault::CommandFault;

@@ -2,7 +2,6 @@
 //! what goes into its files. The jobs of `run`, `check`, `codes` and `audit` are in `tx_jobs`.
 #![tactic(auto)]
 
-mod asked;
 mod auditing;
 mod carrying;
 mod change;

@@ -1,6 +1,5 @@
-use Rattle.std.proofs.Common.{rules, tests, lit<}
+use Rattle.tx_files.proofs.Common.{rules, tests, lit<, YieldsList-from_str_split}
 use Rattle.std.proofs.lemmas.Iterator.Search.{position_from_yields_List}
-use Rattle.std.proofs.lemmas.Iterator.Splits.{YieldsList-from_str_split}
 use Rattle.tx_files.specs.Left.{lack_group}
 use Rattle.tx_files.proofs.left.first_missing.Goals as goal
 

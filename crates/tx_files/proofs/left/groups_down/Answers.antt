@@ -1,5 +1,4 @@
-use Rattle.std.proofs.Common.{◌≡◌, ◌++◌, ◌∷◌, [], ◌∙◌, sym, ap, subst}
-use Rattle.tx_files.specs.Left.{is_down}
+use Rattle.tx_files.proofs.Common.{◌≡◌, ◌++◌, ◌∷◌, [], ◌∙◌, sym, ap, subst, is_down}
 use Rattle.tx_files.proofs.LeftGroups.{one_down, none_down}
 use Rattle.tx_files.proofs.left.groups_down.Goals as goal
 use Rattle.tx_files.proofs.left.groups_down.Goals.{then-is_down+in_ok-push, else-is_down}

@@ -1,6 +1,5 @@
 use Rattle.std.specs.Prelude.{◌≡◌, filter}
-use Rattle.std.specs.List.{range_with_len}
-use Rattle.tx_files.specs.Left.{is_down}
+use Rattle.tx_files.proofs.Common.{range_with_len, is_down}
 use Rattle.tx_files.proofs.left.groups_down.Given as goal
 
 abbrev pub invariant-loop-index : goal.invariant-loop-index

@@ -1,5 +1,4 @@
-use Rattle.std.proofs.Common.{inl, inr, refl}
-use Rattle.tx_text.proofs.Exits.{exits_with}
+use Rattle.tx_files.proofs.Common.{inl, inr, refl, exits_with}
 use Rattle.tx_files.proofs.left.while_down.Goals as goal
 
 pub returns-in_err-texts-clause-left : goal.returns-in_err-texts-clause-left

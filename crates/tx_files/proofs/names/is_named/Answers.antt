@@ -1,7 +1,5 @@
-use Rattle.std.proofs.Common.{rules, tests, lit<}
-use Rattle.std.specs.Str.{bytes_eq}
+use Rattle.tx_files.proofs.Common.{rules, tests, lit<, bytes_eq, YieldsList-from_str_split}
 use Rattle.std.proofs.lemmas.Iterator.Search.{any_from_yields_List}
-use Rattle.std.proofs.lemmas.Iterator.Splits.{YieldsList-from_str_split}
 use Rattle.tx_files.proofs.names.is_named.Goals as goal
 
 pub returns : goal.returns

@@ -1,6 +1,5 @@
-use Rattle.std.proofs.Common.{refl, sym, lit<}
+use Rattle.tx_files.proofs.Common.{refl, sym, lit<, YieldsList-from_str_split}
 use Rattle.std.proofs.lemmas.Iterator.Consumers.{nth_from_yields_List}
-use Rattle.std.proofs.lemmas.Iterator.Splits.{YieldsList-from_str_split}
 use Rattle.tx_files.proofs.names.nth_name.Goals as goal
 
 pub returns-in-Some : goal.returns-in-Some

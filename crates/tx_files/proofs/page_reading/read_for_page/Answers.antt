@@ -1,5 +1,4 @@
-use Rattle.std.proofs.Common.{None, inl, inr, refl}
-use Rattle.tx_text.proofs.Exits.{exits_with}
+use Rattle.tx_files.proofs.Common.{None, inl, inr, refl, exits_with}
 use Rattle.tx_files.proofs.Texts.{risks_fit, old_said}
 use Rattle.tx_files.proofs.Uncalled.{uncalled}
 use Rattle.tx_files.proofs.page_reading.read_for_page.Goals as goal

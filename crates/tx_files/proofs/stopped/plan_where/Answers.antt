@@ -1,6 +1,4 @@
-use Rattle.std.proofs.Common.{refl, inl, inr}
-use Rattle.tx_text.proofs.Exits.{exits_with}
-use Rattle.tx_files.specs.Faults.{memory_stop}
+use Rattle.tx_files.proofs.Common.{refl, inl, inr, exits_with, memory_stop}
 use Rattle.tx_files.proofs.Uncalled.{uncalled}
 use Rattle.tx_files.proofs.stopped.plan_where.Goals as goal
 

@@ -1,5 +1,4 @@
-use Rattle.std.proofs.Common.{inr, refl}
-use Rattle.tx_text.proofs.Exits.{exits_with}
+use Rattle.tx_files.proofs.Common.{inr, refl, exits_with}
 use Rattle.tx_files.proofs.StoppedTexts.{none_read}
 use Rattle.tx_files.proofs.Uncalled.{uncalled}
 use Rattle.tx_files.proofs.stopped.read_stopped.Goals as goal

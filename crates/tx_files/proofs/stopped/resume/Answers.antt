@@ -1,9 +1,4 @@
-use Rattle.std.proofs.Common.{◌≡◌, ◌∙◌, None, Err, ap, refl, sym, subst, inl}
-use Rattle.tx_text.specs.Ends.{input}
-use Rattle.tx_text.proofs.Exits.{exits_with}
-use Rattle.tx_plan.specs.Rules.{IsPlan}
-use Rattle.tx_join.specs.Refusals.{join_refusal}
-use Rattle.tx_files.specs.Stopped.{target_of}
+use Rattle.tx_files.proofs.Common.{◌≡◌, ◌∙◌, None, Err, ap, refl, sym, subst, inl, input, exits_with, IsPlan, join_refusal, target_of}
 use Rattle.tx_files.proofs.LeftTexts.{joined_stop}
 use Rattle.tx_files.proofs.StoppedTexts.{same_target, target_rules, joins_target}
 use Rattle.tx_files.proofs.Uncalled.{uncalled}
@@ -32,7 +27,7 @@ returns-in_err-joined-clause-texts g c =
     let f = c.in_err-joined.field-0.0 in
     let text = input g.R.Source.rest g.R.Source.failed g.R.Source.called c.args.done.now c.plan_where.new.done in
     let is : c.target_of-target.result ≡ target_of c.args.stopped.back t.joined = c.target_of-target.ensures
-        ∙ same_target t.old.plan t.new.plan t.joined c.in_ok-again.again c.args.stopped.back c.requires.joined c.in_ok-again.ensures.joined in
+    ∙ same_target t.old.plan t.new.plan t.joined c.in_ok-again.again c.args.stopped.back c.requires.joined c.in_ok-again.ensures.joined in
     let none : join_refusal c.in_ok-plan.plan c.target_of-target.result ≡ None =
     rw is (joins_target t.old.plan t.new.plan t.joined c.args.stopped c.args.named text c.in_ok-plan.plan c.requires.joined
     c.in_ok-plan.ensures.plan c.in_ok-plan.ensures.rules) in
@@ -43,7 +38,7 @@ pub returns-clause-texts : goal.returns-clause-texts
 returns-clause-texts g c =
     let t = c.args.texts in
     let is : c.target_of-target.result ≡ target_of c.args.stopped.back t.joined = c.target_of-target.ensures
-        ∙ same_target t.old.plan t.new.plan t.joined c.in_ok-again.again c.args.stopped.back c.requires.joined c.in_ok-again.ensures.joined in
+    ∙ same_target t.old.plan t.new.plan t.joined c.in_ok-again.again c.args.stopped.back c.requires.joined c.in_ok-again.ensures.joined in
     record {
       stops = c.in_ok-plan.ensures.plan;
       old_text = refl;

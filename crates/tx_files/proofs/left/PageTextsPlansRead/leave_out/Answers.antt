@@ -1,5 +1,4 @@
-use Rattle.std.proofs.Common.{refl, sym, ap}
-use Rattle.tx_files.specs.declared.two_plans.PlanText.{PlanText}
+use Rattle.tx_files.proofs.Common.{refl, sym, ap, PlanText}
 use Rattle.tx_files.proofs.LeftTexts.{risks_stay}
 use Rattle.tx_files.proofs.left.PageTextsPlansRead.leave_out.Goals as goal
 

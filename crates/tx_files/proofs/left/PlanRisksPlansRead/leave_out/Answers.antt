@@ -1,5 +1,4 @@
-use Rattle.std.proofs.Common.{refl, sym, ap}
-use Rattle.tx_plan.specs.Plan.{Plan}
+use Rattle.tx_files.proofs.Common.{refl, sym, ap, Plan}
 use Rattle.tx_files.proofs.LeftTexts.{risks_stay}
 use Rattle.tx_files.proofs.left.PlanRisksPlansRead.leave_out.Goals as goal
 

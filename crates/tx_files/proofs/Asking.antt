@@ -4,7 +4,7 @@ use Rattle.std.specs.Str.{bytes_eq}
 use Rattle.std.proofs.lemmas.List.{at_drop_more, at_drop_all, length_push}
 use Rattle.std.proofs.lemmas.List.Quantifiers.{position-Some}
 use Rattle.tx_plan.specs.Plan.{Plan, exchange_named, code_named, group_named}
-use Rattle.tx_requests.specs.Asked.{group_before, groups_named, all_asked, asked_of}
+use Rattle.tx_files.specs.Asked.{group_before, groups_named, all_asked, asked_of}
 
 -- THE GROUPS of some names
 

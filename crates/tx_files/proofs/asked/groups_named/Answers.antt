@@ -1,7 +1,7 @@
-use Rattle.tx_requests.proofs.Common.{◌≡◌, ◌∙◌, length, sym, lit<, arith, YieldsList-from_str_split, length_push, names_in}
+use Rattle.tx_files.proofs.Common.{◌≡◌, ◌∙◌, length, sym, lit<, arith, YieldsList-from_str_split, length_push, names_in}
 use Rattle.std.proofs.lemmas.Iterator.Consumers.{YieldsList-at, YieldsList-turn, YieldsList-end}
-use Rattle.tx_requests.proofs.Asking.{no_name, next_named, next_unnamed, all_named}
-use Rattle.tx_requests.proofs.asked.groups_named.Goals as goal
+use Rattle.tx_files.proofs.Asking.{no_name, next_named, next_unnamed, all_named}
+use Rattle.tx_files.proofs.asked.groups_named.Goals as goal
 
 pub loop-name-init : goal.loop-name-init
 loop-name-init g c =

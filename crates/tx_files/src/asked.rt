@@ -2,18 +2,19 @@
 ghost use Rattle.std.specs.Prelude.{◌≡◌, IfOk, option_map};
 ghost use Rattle.std.specs.Result.{result_map_both};
 ghost use Rattle.tx_files.specs.Names.{names_in};
-ghost use Rattle.tx_requests.specs.Asked.{groups_named, groups_in, asked_of, through_named, passed_of};
-ghost use Rattle.tx_requests.specs.inner.Answered.{IsAnswered, IsPassed};
+ghost use Rattle.tx_files.specs.Asked.{groups_named, groups_in, asked_of, through_named, passed_of, IsAnswered, IsPassed};
 
+use crate::fault::CommandFault;
+use crate::missing::Named;
+use crate::names::name_at;
 use std::alloc::Allocator;
-use tx_files::{CommandFault, Named, name_at};
 use tx_plan::{CodeId, ExchangeId, GroupId, Plan};
 use tx_text::NoMemory;
 use tx_trace::Through;
 
 /// The exchange of a name, the code of some figures, and the groups that a word names, with a comma
 /// between two.
-pub(crate) fn asked_of<A: Allocator + Copy>(
+pub fn asked_of<A: Allocator + Copy>(
     alloc: A,
     plan: &Plan<A>,
     exchange: &[u8],
@@ -39,7 +40,7 @@ pub(crate) fn asked_of<A: Allocator + Copy>(
 }
 
 /// The exchange of a name, or else the group of it, and the groups that a word names.
-pub(crate) fn passed_of<A: Allocator + Copy>(
+pub fn passed_of<A: Allocator + Copy>(
     alloc: A,
     plan: &Plan<A>,
     name: &[u8],

@@ -1,11 +1,12 @@
 -- What is asked of a plan by names: an exchange, a code, and groups.
-use Rattle.std.specs.Prelude.{ℕ, suc, List, [], ◌∷◌, Option, None, Some, Result, Ok, Err}
+use Rattle.std.specs.Prelude.{ℕ, suc, List, [], ◌∷◌, Option, None, Some, Result, Ok, Err, ◌≡◌, ◌⊎◌, Vec}
 use Rattle.tx_plan.specs.Plan.{Plan, exchange_named, code_named, group_named}
 use Rattle.tx_trace.specs.declared.through.Through.{Through}
 use Rattle.tx_trace.specs.declared.through.Through.TheVariants.{Exchange, Group}
 use Rattle.tx_files.specs.declared.fault.CommandFault.{CommandFault}
 use Rattle.tx_files.specs.declared.fault.CommandFault.TheVariants.{NoSuchName}
 use Rattle.tx_files.specs.declared.missing.Named.TheVariants.{Exchange as ExchangeAsked, Code as CodeAsked, Group as GroupAsked, ExchangeOrGroup as EitherAsked}
+use Rattle.tx_files.specs.Faults.{memory_stop}
 use Rattle.tx_files.specs.Missing.{missing}
 use Rattle.tx_files.specs.Names.{names_in, name_at}
 
@@ -63,3 +64,15 @@ module _ (p : Plan) (name : List ℕ) (groups : Option (List ℕ)) where
   -- what the plan has of these names
   abbrev pub passed_of : Result (Through × List ℕ) CommandFault
   passed_of = all_passed (through_named p name) (groups_in p groups)
+
+-- these are answered, or which of them is not there; or memory ran out
+abbrev pub IsAnswered : {A : Type 0} → Result (ℕ × ℕ × List ℕ) CommandFault
+    → Result (ℕ × ℕ × Vec ℕ A) CommandFault → Type 0
+IsAnswered asked (Ok (x, c, groups)) = asked ≡ Ok (x, c, groups.items)
+IsAnswered asked (Err fault) = (asked ≡ Err fault) ⊎ (fault ≡ memory_stop)
+
+-- likewise of what is passed
+abbrev pub IsPassed : {A : Type 0} → Result (Through × List ℕ) CommandFault
+    → Result (Through × Vec ℕ A) CommandFault → Type 0
+IsPassed asked (Ok (t, groups)) = asked ≡ Ok (t, groups.items)
+IsPassed asked (Err fault) = (asked ≡ Err fault) ⊎ (fault ≡ memory_stop)
