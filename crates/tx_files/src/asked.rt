@@ -4,9 +4,7 @@ ghost use Rattle.std.specs.Result.{result_map_both};
 ghost use Rattle.tx_files.specs.Names.{names_in};
 ghost use Rattle.tx_files.specs.Asked.{groups_named, groups_in, asked_of, through_named, passed_of, IsAnswered, IsPassed};
 
-use crate::fault::CommandFault;
-use crate::missing::Named;
-use crate::names::name_at;
+use crate::{CommandFault, Named, name_at};
 use std::alloc::Allocator;
 use tx_plan::{CodeId, ExchangeId, GroupId, Plan};
 use tx_text::NoMemory;

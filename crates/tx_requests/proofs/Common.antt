@@ -4,11 +4,9 @@ pub use Rattle.std.proofs.lemmas.Bool.{false≢true}
 pub use Rattle.std.proofs.lemmas.Iterator.{YieldsList-from_slice}
 pub use Rattle.std.proofs.lemmas.Iterator.Search.{any_from_yields_List}
 pub use Rattle.std.proofs.lemmas.Iterator.Splits.{YieldsList-from_str_split}
-pub use Rattle.std.proofs.lemmas.List.{length_push}
 pub use Rattle.std.specs.List.{AllByRecursion}
 pub use Rattle.std.specs.Prelude.{IfSome, if◌then◌else◌}
 pub use Rattle.tx_files.proofs.Uncalled.{uncalled}
-pub use Rattle.tx_files.specs.Names.{names_in}
 pub use Rattle.tx_files.specs.Faults.{memory_stop, risks_stop, text_stop, write_stop}
 pub use Rattle.tx_files.specs.TwoPlans.{AreJoined}
 pub use Rattle.tx_files.specs.declared.fault.CommandFault.{CommandFault}
