@@ -62,8 +62,7 @@ fn play_over(alloc: Global, head: Head<'_>, text: Script<'_>, out: &mut Told) {
     }
 }
 
-/// Tries that a script writes over the plain network what the job writes, which runs it over the
-/// engine.
+/// Tries that a script writes over the plain network what the job writes over the engine.
 fn try_plain(alloc: Global, run: Task<'_>, job: &[u8], out: &mut Told) {
     let text = Script::opening(run.first, run.second);
     let did = done(alloc, Work::Run(text), Ends::pieces(4096), job);
@@ -157,8 +156,7 @@ fn play_task(alloc: Global, task: Task<'_>, mode: Mode, out: &mut Told) {
     }
 }
 
-/// Plays an input as a pipe, and as a plan and a script, which have to do the same, and tries the
-/// laws of the run.
+/// Plays an input as a pipe, and as a plan and a script, which do the same, and tries the laws.
 fn play_both(alloc: Global, head: Head<'_>, input: &[u8], out: &mut Told) {
     // The plan goes up to and with its first line END.
     let (plan, script) = match memmem::find(input, b"\nEND\n") {

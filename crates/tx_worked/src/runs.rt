@@ -95,8 +95,7 @@ pub(crate) fn run_text<A: Allocator + Copy>(
     run_source(alloc, text, &mut source, out)
 }
 
-/// Runs the script of a task over its plan after a Yes to its certificate. After a No there is no
-/// run.
+/// Runs the script of a task over its plan after a Yes to its certificate, and not after a No.
 pub(crate) fn run_after_yes<A: Allocator + Copy>(
     alloc: A,
     task: Task<'_>,
