@@ -10,7 +10,7 @@ pub const MOMENT: u64 = 1_796_083_200;
 /// The words of a command after the kind of its case and, where it matters, the word after the
 /// kind. `@1`, `@2` and `@3` stand for the words after the kind: where there is no such word, what
 /// has it is left out. All that a command can print and make is asked for.
-static COMMANDS: [&str; 32] = [
+static COMMANDS: [&str; 33] = [
     "pipe:",
     "run: run plan script",
     "checked: run plan script --cert=cert --limit=@1 --spare=@2",
