@@ -38,4 +38,6 @@ def judge_down(program, old, new, at, down, exchange):
             need((ran.status, ran.out, told) == (64, "", f"telexplan: no such {missing[0]}"), f"refused as {ran.err}")
             continue
         wanted = program.run(words, texts(without if words[0] == "mend" else left))
-        need((ran.status, ran.out) == (wanted.status, wanted.out), f"{words} says {ran.out} and not {wanted.out}")
+        # (each text has its lists in an order of its own, in which some lines of two plans stand)
+        said, due = (sorted(it.out.split("\n")) if "q" in words else it.out for it in (ran, wanted))
+        need((ran.status, said) == (wanted.status, due), f"{words} says {ran.out} and not {wanted.out}")

@@ -38,8 +38,7 @@ fn lines_at<A: Allocator>(plan: &Plan<A>, exchange: ExchangeId) -> u64
 fn is_cut_at(cuts: &[Cut], exchange: ExchangeId) -> bool
     ensures { result ≡ is_cut_at cuts.now exchange }
 {
-    cuts.iter()
-        .any(|cut| !cut.stray && cut.start == exchange)
+    cuts.iter().any(|cut| !cut.stray && cut.start == exchange)
 }
 
 /// How many lines of an exchange are then cut off.
