@@ -229,7 +229,7 @@ def print_faults(page, folder):
             yield f"sheet {number} is of a stage, and does not have its name"
         if crews and not {"Stage", "Before", "After", "What"} & set(texts):
             yield f"sheet {number} is of the work at an exchange, and does not have its name"
-        crews = crews and "Codes" not in texts
+        within, crews = (it and "Codes" not in texts for it in (within, crews))
     print(f"{page.name}: {len(printed)} sheets")
 
 
