@@ -290,7 +290,7 @@ def words_explained():
 
 def check_words_printed(tell):
     """The tables have each word in capitals that a command of the player of the gate prints, but for names that its texts declare. (`lint` prints words at fault too.)"""
-    reports = {"audit", "both", "certified", "change", "check", "checked", "codes", "fill", "grade", "mend", "order", "pipe", "run", "stage", "survive", "telling", "trace"}
+    reports = {"audit", "both", "certified", "change", "check", "checked", "codes", "fill", "grade", "mend", "onward", "order", "pipe", "return", "run", "stage", "survive", "telling", "trace"}
     known = {it.upper() for row in codes_explained() + words_explained() for it in row[:2]}
     for head, texts, prints in played():
         names = set(re.findall(r"(?m)^\s*(?:EXCHANGE|GROUP|RISK)\s+(\w+)", texts))
@@ -434,8 +434,13 @@ def case_of(example):
         return f"checked{bounds}", b"---\n".join([plan, cert, script])
     kinds = {"run": telling_of(example.words), "codes": "codes", "grade": "grade"} | {it: it + bounds for it in ("check", "audit")}
     staged = example.option("--stage")
+    down = example.option("--down")
     kinds |= {"mend": f"mend{bounds}", "change": f"change{bounds}", "order": f"stage{bounds} {staged}" if staged else f"order{bounds}"}
-    kinds |= {"survive": "survive" if example.option("--risks") else "survive alone", "trace": asked_of(example, "--down"), "fill": asked_of(example, "--down"), "lint": " ".join(["lint", *["risks"] * bool(example.option("--risks")), *example.words[1:2]])}
+    kinds |= {"survive": "survive" if example.option("--risks") else " ".join(["survive alone", *filter(None, [down])]), "trace": asked_of(example, "--down"), "fill": asked_of(example, "--down"), "lint": " ".join(["lint", *["risks"] * bool(example.option("--risks")), *example.words[1:2]])}
+    if down and verb in ("audit", "mend", "order"):
+        kinds[verb] = f"{verb}-down{bounds} {down}"
+    if example.option("--done"):
+        kinds["order"] = f"return {staged}" if "--back" in example.words else " ".join(["onward", staged, *filter(None, [down])])
     if verb == "trace" and example.option("--from"):
         kinds["trace"] = "trace changes"
     if example.option("--through"):

@@ -10,7 +10,7 @@ pub const MOMENT: u64 = 1_796_083_200;
 /// The words of a command after the kind of its case and, where it matters, the word after the
 /// kind. `@1`, `@2` and `@3` stand for the words after the kind: where there is no such word, what
 /// has it is left out. All that a command can print and make is asked for.
-static COMMANDS: [&str; 33] = [
+static COMMANDS: [&str; 38] = [
     "pipe:",
     "run: run plan script",
     "checked: run plan script --cert=cert --limit=@1 --spare=@2",
@@ -23,11 +23,16 @@ static COMMANDS: [&str; 33] = [
     "lint: lint @1",
     "codes: codes plan",
     "audit: audit plan --limit=@1 --spare=@2 --cert=cert --counter=script",
+    "audit-down: audit plan --limit=@1 --spare=@2 --down=@3",
     "change: change old new --limit=@1 --spare=@2 --cert=cert --mixture=plan --counter=script",
     "order: order old new --limit=@1 --spare=@2",
+    "order-down: order old new --limit=@1 --spare=@2 --down=@3",
+    "onward: order old new --limit=1 --spare=0 --stage=@1 --done=done --down=@2",
+    "return: order old new --limit=1 --spare=0 --stage=@1 --done=done --back",
     "stage: order old new --limit=@1 --spare=@2 --stage=@3 --plan=plan --cert=cert",
     "mend: mend old --limit=@1 --spare=@2 --plan=plan --cert=cert",
-    "survive alone: survive plan",
+    "mend-down: mend old --limit=@1 --spare=@2 --down=@3",
+    "survive alone: survive plan --down=@2",
     "survive named: survive plan --risks=risks --risks-only",
     "survive from: survive new --from=old",
     "survive named-from: survive new --from=old --risks=risks --risks-only",
