@@ -461,7 +461,7 @@ def asked_of(example, last):
 
 def evidence_of(example):
     """What the player prints behind the report of an audit, of a change, of an order or of a mending: the files that an example makes of the same one."""
-    asked = lambda it: it.words[:1] + it.files + [it.option("--limit"), it.option("--spare"), it.option("--stage")]
+    asked = lambda it: it.words[:1] + it.files + [it.option(name) for name in ("--limit", "--spare", "--stage", "--down")]
     made = [it.made for it in examples() if it.made and asked(it) == asked(example)]
     return b"".join(map(read, made[0])) if made else b""
 
