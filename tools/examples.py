@@ -285,7 +285,7 @@ def codes_explained(*names):
 
 def words_explained():
     """The program's tables of words."""
-    return codes_explained("report_words", "run_words")
+    return codes_explained("report_words", "way_words", "run_words")
 
 
 def check_words_printed(tell):

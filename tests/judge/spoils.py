@@ -175,6 +175,7 @@ WAYS = [
     ("survive", "cut off for astray", put("^STRAY", "CUT")),
     ("survive", "astray for cut off", put("^CUT", "STRAY")),
     ("survive", "an outage left out", without(r"(GROUP|EXCHANGE|RISK) \w+ CUT")),
+    ("survive", "a risk that is known in part left out", without(r"RISK \w+ PARTLY")),
     ("survive", "one outage more", put(r"^(SURVIVE RISKS )(\d+)", more)),
     ("survive", "one group more", put(r"^(GROUPS )(\d+)", more)),
     ("survive", "one cut more in the totals", put(r"^(\w+ \w+ CUT )(\d+)", more)),

@@ -38,6 +38,7 @@ mod subcommand;
 mod survive;
 mod text_faults;
 mod trace;
+mod way_words;
 
 pub use audit::AuditRequest;
 pub use change::ChangeRequest;

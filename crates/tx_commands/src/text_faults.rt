@@ -262,7 +262,7 @@ pub static TEXT_FAULTS: [Entry; 59] = [
         "Q5",
         "UnknownName",
         "The plan has no such group.",
-        "Correct the word, or see whether the risks are of another plan.",
+        "Correct the word, or see whether the risks are of another plan. Under the header RISKS 2 the groups that the plan has are tried.",
     ],
     [
         "Q6",
@@ -273,7 +273,7 @@ pub static TEXT_FAULTS: [Entry; 59] = [
     [
         "Q7",
         "NoHeader",
-        "The first line with words is not RISKS 1.",
+        "The first line with words is not RISKS 1 or RISKS 2.",
         "Begin the text with it, or see whether this file is a text of risks.",
     ],
     [

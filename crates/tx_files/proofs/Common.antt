@@ -8,10 +8,10 @@ pub use Rattle.tx_files.specs.Faults.{memory_stop, plan_stop, text_stop}
 pub use Rattle.tx_files.specs.Left.{is_down}
 pub use Rattle.tx_files.specs.Missing.{is_within, names_of}
 pub use Rattle.tx_files.specs.Names.{names_in}
-pub use Rattle.tx_files.specs.Stopped.{target_of}
 pub use Rattle.tx_files.specs.declared.fault.CommandFault.{CommandFault}
 pub use Rattle.tx_files.specs.declared.two_plans.PlanText.{PlanText}
 pub use Rattle.tx_join.specs.Refusals.{join_refusal}
+pub use Rattle.tx_order.specs.Stopped.{target_of}
 pub use Rattle.tx_plan.specs.Plan.{Plan}
 pub use Rattle.tx_plan.specs.Rules.{IsPlan}
 pub use Rattle.tx_risk.specs.NamedRisks.{AreRisksFor, NamedRisk}

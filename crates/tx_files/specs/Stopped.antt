@@ -4,14 +4,13 @@ use Rattle.tx_text.specs.declared.frame.FaultAt.{FaultAt}
 use Rattle.tx_text.specs.Ends.{Input}
 use Rattle.tx_plan.specs.declared.ids.Pair.{Pair}
 use Rattle.tx_plan.specs.Plan.{Plan}
-use Rattle.tx_join.specs.declared.joining.Joined.{Joined}
 use Rattle.tx_order.specs.declared.done.DoneWord.{DoneWord}
 use Rattle.tx_order.specs.declared.switching.Switching.{Switching}
 use Rattle.tx_order.specs.declared.switching.Switching.TheVariants.{Ordered, NoOrder}
 use Rattle.tx_order.specs.DoneText.{ReadsDone}
 use Rattle.tx_order.specs.Ordered.{Order, stages_in}
 use Rattle.tx_order.specs.Staged.{IsStageOf}
-use Rattle.tx_order.specs.Stopped.{IsStopped}
+use Rattle.tx_order.specs.Stopped.{IsStopped, target_of}
 use Rattle.tx_order.specs.Switchings.{IsRightSwitching}
 use Rattle.tx_commands.specs.declared.order.Stopped.{Stopped}
 use Rattle.tx_files.specs.declared.fault.CommandFault.{CommandFault}
@@ -47,7 +46,7 @@ module _ {A : Type 0} where
   abbrev pub StopsBy : Stopped → (named : Bool) → Input → Switching A → Result Plan CommandFault
       → Type 0
   StopsBy s named text (Ordered o) result = StopsIn s named text o result
-  StopsBy s named text (NoOrder p before after) result = result ≡ Err (NoSuchStage 0)
+  StopsBy s named text (NoOrder plans before after) result = result ≡ Err (NoSuchStage 0)
 
 -- the same of an order that was begun between two plans, unless memory ran out
 abbrev pub StopsAt : (A : Type 0) → (old new : Plan) → Stopped → (named : Bool) → Input
@@ -57,17 +56,12 @@ StopsAt A old new s named text result = (result ≡ Err memory_stop)
     × StopsBy s named text begun result)
 
 module _ {A : Type 0} where
-  -- the plan to which the order leads from there, over the joined network
-  abbrev pub target_of : (back : Bool) → Joined A → Plan
-  target_of true j = j.old
-  target_of false j = j.new
-
   -- the plan where the order was stopped, and the one to which it leads from there
   pub record IsResumed (s : Stopped) (named : Bool) (t : TwoPlans A) (text : Input) (l : TwoPlans A)
       : Type 0 where
     pub stops : StopsAt A t.joined.old t.joined.new s named text (Ok l.old.plan)
     pub old_text : l.old.text ≡ t.old.text
-    pub new : l.new ≡ record t.new { plan = target_of s.back t.joined }
+    pub new : l.new ≡ record t.new { plan = target_of s.back t.joined.old t.joined.new }
     pub joined : IsJoin l.old.plan l.new.plan l.joined
 
   abbrev pub Resumes : Stopped → (named : Bool) → TwoPlans A → Input

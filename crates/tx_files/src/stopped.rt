@@ -1,10 +1,12 @@
 // The two plans of an order that leads on or back from where another one was stopped.
 ghost use Rattle.std.specs.Prelude.{◌≡◌, IfOk};
+ghost use Rattle.std.specs.Result.{result_map_both};
 ghost use Rattle.tx_text.specs.Calls.{CallsAtMost, source_calls};
 ghost use Rattle.tx_text.specs.Ends.{input};
 ghost use Rattle.tx_plan.specs.Mixtures.{SameNetwork};
 ghost use Rattle.tx_plan.specs.Rules.{IsPlan};
-ghost use Rattle.tx_files.specs.Stopped.{StopsIn, StopsAt, target_of, Resumes, ReadsStopped};
+ghost use Rattle.tx_order.specs.Stopped.{target_of};
+ghost use Rattle.tx_files.specs.Stopped.{StopsIn, StopsAt, Resumes, ReadsStopped};
 ghost use Rattle.tx_files.specs.TwoPlans.{AreJoined};
 
 use crate::fault::CommandFault;
@@ -57,9 +59,7 @@ fn resume<A: Allocator + Copy, R: Source>(
     ensures calls { CallsAtMost R.called source_calls done.old done.new }
 {
     let TwoPlans { old, new, joined } = texts;
-    let again = joined_of(alloc, &old, &new)?;
-    let target = target_of(again, stopped.back);
-    let plan = plan_where(alloc, stopped, named, joined, done)?;
+    let (plan, target) = plan_where(alloc, stopped, named, joined, done)?;
     let old = PlanText {
         text: old.text,
         plan,
@@ -72,52 +72,53 @@ fn resume<A: Allocator + Copy, R: Source>(
     Ok(TwoPlans { old, new, joined })
 }
 
-/// The plan to which an order leads from where one was stopped.
-fn target_of<A: Allocator>(joined: Joined<A>, back: bool) -> Plan<A>
-    ensures { result ≡ target_of back joined }
-{
-    if back { joined.old } else { joined.new }
-}
-
-/// The plan where an order between two plans of one network was stopped.
+/// The plan where an order between two plans of one network was stopped, and the one to which an
+/// order is to lead from there.
 fn plan_where<A: Allocator + Copy, R: Source>(
     alloc: A,
     stopped: Stopped,
     named: bool,
     joined: Joined<A>,
     done: &mut R,
-) -> Result<Plan<A>, CommandFault>
+) -> Result<(Plan<A>, Plan<A>), CommandFault>
     requires { SameNetwork joined.old joined.new }
     ensures plan { StopsAt A joined.old joined.new stopped named
-        (input R.rest R.failed R.called done.old done.new) result }
-    ensures rules { IfOk result IsPlan }
+        (input R.rest R.failed R.called done.old done.new)
+        (result_map_both (λ plans. plans.0) (λ fault. fault) result) }
+    ensures rules { IfOk result (λ plans. IsPlan plans.0) }
+    ensures target { IfOk result
+        (λ plans. plans.1 ≡ target_of stopped.back joined.old joined.new) }
     ensures calls { CallsAtMost R.called source_calls done.old done.new }
 {
-    match order(alloc, joined.old, joined.new, stopped.limits)? {
+    match order(alloc, joined, stopped.limits)? {
         Switching::Ordered(order) => plan_in(alloc, order, stopped, named, done),
         Switching::NoOrder(..) => Err(CommandFault::NoSuchStage(0)),
     }
 }
 
-/// The plan in the stage of an order where it was stopped.
+/// The plan in the stage of an order where it was stopped, and the one to which an order is to lead
+/// from there.
 fn plan_in<A: Allocator + Copy, R: Source>(
     alloc: A,
     order: Order<A>,
     stopped: Stopped,
     named: bool,
     done: &mut R,
-) -> Result<Plan<A>, CommandFault>
+) -> Result<(Plan<A>, Plan<A>), CommandFault>
     ensures plan { StopsIn stopped named
-        (input R.rest R.failed R.called done.old done.new) order result }
-    ensures rules { IfOk result IsPlan }
+        (input R.rest R.failed R.called done.old done.new) order
+        (result_map_both (λ plans. plans.0) (λ fault. fault) result) }
+    ensures rules { IfOk result (λ plans. IsPlan plans.0) }
+    ensures target { IfOk result (λ plans.
+        plans.1 ≡ target_of stopped.back order.transition.old order.transition.new) }
     ensures calls { CallsAtMost R.called source_calls done.old done.new }
 {
     if let Some(stages) = stages_without(&order, usize::from(stopped.stage)) {
         return Err(CommandFault::NoSuchStage(stages));
     }
     if !named {
-        return Ok(plan_stopped(alloc, order, stopped.stage, None)?);
+        return Ok(plan_stopped(alloc, order, stopped.stage, None, stopped.back)?);
     }
     let pairs = read_done(alloc, done, &order, stopped.stage)?;
-    Ok(plan_stopped(alloc, order, stopped.stage, Some(&pairs))?)
+    Ok(plan_stopped(alloc, order, stopped.stage, Some(&pairs), stopped.back)?)
 }

@@ -171,19 +171,10 @@ module _ (before : List Fault) (g : Gathering) (s : AreGathered before g) where
       ∙ ap (λ b. list_any (misses n) before || b) (or-false (misses n f))
 
   old_name : (a b x : Bool) → (b ≡ true → x ≡ true) → (a || x) ≡ (x || (a || b))
-  old_name true b true h = refl
-  old_name true b false h = refl
-  old_name false b true h = refl
-  old_name false true false h = h refl
-  old_name false false false h = refl
+  old_name a b x h = grind arith
 
   new_name : (a b x : Bool) → (a || (b || x)) ≡ (x || (a || b))
-  new_name true b true = refl
-  new_name true b false = refl
-  new_name false true true = refl
-  new_name false true false = refl
-  new_name false false true = refl
-  new_name false false false = refl
+  new_name a b x = grind arith
 
   gathered_more : (f : Fault) (o : Option ℕ)
       → option_and_then (cause_in g.missing) (name_needed f) ≡ o

@@ -66,15 +66,15 @@ module _ {A : Type 0} where
   -- the stages, if there are any
   abbrev pub found_text : OrderVerdict A → List ℕ
   found_text (Ordered o) = stages_text o
-  found_text (NoOrder p before after) = []
+  found_text (NoOrder plans before after) = []
   found_text (NewUnsound findings) = []
 
   -- YES, or what is wrong with both plans over the joined network, or with the new plan as it is, by
   -- its own names
   abbrev pub verdict_text : (new : Plan) → OrderVerdict A → List ℕ
   verdict_text new (Ordered o) = codes "VERDICT YES\n"
-  verdict_text new (NoOrder p before after) =
-      no_order_text p (findings_of before) (findings_of after)
+  verdict_text new (NoOrder plans before after) =
+      no_order_text plans.old (findings_of before) (findings_of after)
   verdict_text new (NewUnsound findings) = verdict_after (codes "NEW ") new findings.items
 
   -- The report: what was asked, after the word that says which order it is; what is done before the

@@ -12,6 +12,10 @@ use Rattle.tx_order.specs.Ordered.{Order, plan_before}
 abbrev pub is_done : List Pair → (x c : ℕ) → Bool
 is_done pairs x c = list_any (λ p. (p.exchange == x) && (p.code == c)) pairs
 
+-- the plan to which an order leads on or back from where one was stopped
+abbrev pub target_of : (back : Bool) → (old new : Plan) → Plan
+target_of back old new = if back then old else new
+
 -- how many stages are done for an exchange and a code where stage n is stopped: of the stage what
 -- these pairs say, or all of it
 abbrev pub stages_done : Option (List Pair) → (n x c : ℕ) → ℕ

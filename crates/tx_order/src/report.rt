@@ -60,7 +60,9 @@ fn write_verdict<A: Allocator, W: Sink>(new: &Plan<A>, verdict: &OrderVerdict<A>
 {
     match verdict {
         OrderVerdict::Ordered(_) => put_bytes(b"VERDICT YES\n", sink),
-        OrderVerdict::NoOrder(plan, before, after) => write_no_order(plan, before, after, sink),
+        OrderVerdict::NoOrder(plans, before, after) => {
+            write_no_order(&plans.old, before, after, sink)
+        }
         OrderVerdict::NewUnsound(findings) => write_verdict_after(b"NEW ", new, findings, sink),
     }
 }

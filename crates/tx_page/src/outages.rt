@@ -1,9 +1,10 @@
 // What outages cut off.
-ghost use Rattle.std.specs.Prelude.{◌≡◌, count_by};
+ghost use Rattle.std.specs.Prelude.{◌≡◌, length, count_by};
 ghost use Rattle.std.specs.List.{flat_map};
 ghost use Rattle.tx_html.specs.Shows.{Sets};
+ghost use Rattle.tx_svg.specs.Indexed.{texts_below};
 ghost use Rattle.tx_risk_report.specs.OutageReport.{is_harmless};
-ghost use Rattle.tx_page.specs.OutageTexts.{outage_kind, outage_name, cut_texts, outcome_texts, shown_texts, total_texts, tried_texts, outages_texts};
+ghost use Rattle.tx_page.specs.OutageTexts.{outage_kind, outage_name, unknown_texts, cut_texts, outcome_texts, shown_texts, total_texts, tried_texts, outages_texts};
 
 use std::alloc::Allocator;
 use tx_html::{PageSink, Part, set};
@@ -41,6 +42,7 @@ fn write_graded<A: Allocator, W: PageSink>(
         (tried_texts plan.now risks.now outcomes.now) }
 {
     write_tried(outcomes, sink);
+    write_unknown(risks, sink);
     write_outcomes(plan, risks, outcomes, sink);
 }
 
@@ -51,6 +53,8 @@ that cut nobody off and lead nobody astray: ";
 const OTHERS: &str = ". Below are the others. Cut off: no way home is left from where calls start. \
 Astray: one is left, and also one to an exchange that has no group left. Calls that start at an exchange \
 that fails, and calls for codes at home there, are not counted.</p>";
+
+const PARTLY: &str = "</b> names groups that the plan has not.</p>";
 
 const UNGRADED: &str = "<h2>Outages</h2><p>The plan has no grade: it is safe for no limit and no \
 spare number. So no outage was tried.</p>";
@@ -78,6 +82,32 @@ fn count_harmless<A: Allocator>(outcomes: &[Outcome<A>]) -> usize
         .iter()
         .filter(|outcome| is_harmless(outcome))
         .count()
+}
+
+/// Writes each risk that names groups which the plan has not.
+fn write_unknown<A: Allocator, W: PageSink>(risks: &Risks<A>, sink: &mut W)
+    ensures { Sets W.seen sink.old sink.new
+        (texts_below (length risks.now) (unknown_texts risks.now)) }
+{
+    for index in 0..risks.len() {
+        write_unknown_risk(risks, index, sink);
+    }
+}
+
+fn write_unknown_risk<A: Allocator, W: PageSink>(risks: &Risks<A>, index: usize, sink: &mut W)
+    ensures { Sets W.seen sink.old sink.new (unknown_texts risks.now index) }
+{
+    if risks.has_unknown(index) {
+        let name = risks.name(index);
+        set(
+            &[
+                Part::Own("<p>Risk <b>"),
+                Part::Text(name),
+                Part::Own(PARTLY),
+            ],
+            sink,
+        );
+    }
 }
 
 /// Writes each outcome that is shown.

@@ -4,10 +4,10 @@ use Rattle.std.specs.List.{list_any, range_with_len}
 use Rattle.std.specs.Option.{option_map_or}
 use Rattle.tx_plan.specs.Plan.{Plan, exchange_name, exchange_named}
 use Rattle.tx_plan.specs.Routes.{route_list, is_barred}
-use Rattle.tx_join.specs.declared.joining.Joined.{Joined}
 use Rattle.tx_order.specs.Ordered.{Order, plan_before, stages_in}
 use Rattle.tx_order.specs.declared.switching.Switching.{Switching}
 use Rattle.tx_order.specs.declared.switching.Switching.TheVariants.{Ordered, NoOrder}
+use Rattle.tx_order.specs.Switchings.{plans_of}
 use Rattle.tx_svg.specs.Indexed.{texts_below}
 use Rattle.tx_page_change.specs.ChangeTexts.{is_switched, exchange_texts, stage_title}
 use Rattle.tx_page_change.specs.StepTexts.{bare, alone_in}
@@ -42,21 +42,23 @@ stage_work_texts o x s = work_texts (stage_title o s) o.transition.new (plan_bef
 
 module _ {A : Type 0} where
   -- what is switched at an exchange, stage by stage; or all that differs there
-  abbrev pub switched_work_texts : (safe : Bool) → Joined A → Switching A → ℕ → List (List ℕ)
-  switched_work_texts safe j (Ordered o) x = if safe
-      then texts_below (stages_in o) (stage_work_texts o x) else work_texts [] j.new j.old j.new x
-  switched_work_texts safe j (NoOrder p before after) x = work_texts [] j.new j.old j.new x
+  abbrev pub switched_work_texts : (safe : Bool) → Switching A → ℕ → List (List ℕ)
+  switched_work_texts safe (Ordered o) x = if safe
+      then texts_below (stages_in o) (stage_work_texts o x)
+      else work_texts [] o.transition.new o.transition.old o.transition.new x
+  switched_work_texts safe (NoOrder plans before after) x =
+      work_texts [] plans.new plans.old plans.new x
 
   -- what is done at an exchange of the joined network: before the stages, in each, and after them
   abbrev pub crew_texts : (safe : Bool) → Change A → ℕ → List (List ℕ)
   crew_texts safe c x =
       named_work_texts [] c.new.plan.now (bare c.new.plan.now)
-      (alone_in c.new.plan.now c.old.plan.now) (exchange_name c.joined.now.new x)
-      ++ (switched_work_texts safe c.joined.now c.switching.now x
+      (alone_in c.new.plan.now c.old.plan.now) (exchange_name (plans_of c.switching.now).new x)
+      ++ (switched_work_texts safe c.switching.now x
       ++ named_work_texts [] c.old.plan.now (alone_in c.old.plan.now c.new.plan.now)
-      (bare c.old.plan.now) (exchange_name c.joined.now.new x))
+      (bare c.old.plan.now) (exchange_name (plans_of c.switching.now).new x))
 
   -- that at each exchange, if it is asked for
   abbrev pub crews_texts : (safe : Bool) → Change A → List (List ℕ)
   crews_texts safe c = if c.by_exchange
-      then texts_below (length c.joined.now.new.exchanges) (crew_texts safe c) else []
+      then texts_below (length (plans_of c.switching.now).new.exchanges) (crew_texts safe c) else []

@@ -5,7 +5,6 @@ use Rattle.tx_plan.specs.Plan.{Plan}
 use Rattle.tx_plan.specs.Mixed.{rerouted}
 use Rattle.tx_join.specs.declared.entries.Entries.{Entries}
 use Rattle.tx_join.specs.declared.entries.Entries.TheVariants.{Exchanges, Codes, Ranges, Groups}
-use Rattle.tx_join.specs.declared.joining.Joined.{Joined}
 use Rattle.tx_join.specs.Joined.{routes_alone, bars_alone}
 use Rattle.tx_join.specs.Differences.{count_of_entries, is_known, entry_words, circuits_lines, differ}
 use Rattle.tx_order.specs.declared.switching.Switching.{Switching}
@@ -69,17 +68,18 @@ after_texts old new =
 module _ {A : Type 0} where
   -- the stages of an order, if there is one and the new plan is safe; else all that differs over
   -- the joined network
-  abbrev pub switching_texts : (safe : Bool) → Joined A → Switching A → List (List ℕ)
-  switching_texts safe j (Ordered o) = if safe then stages_texts o else difference_texts j.old j.new
-  switching_texts safe j (NoOrder p before after) = difference_texts j.old j.new
+  abbrev pub switching_texts : (safe : Bool) → Switching A → List (List ℕ)
+  switching_texts safe (Ordered o) = if safe then stages_texts o
+      else difference_texts o.transition.old o.transition.new
+  switching_texts safe (NoOrder plans before after) = difference_texts plans.old plans.new
 
   -- what is done before that, and after it
   abbrev pub steps_texts : (safe : Bool) → Change A → List (List ℕ)
   steps_texts safe c = codes "differ" ∷ (before_texts c.old.plan.now c.new.plan.now
-      ++ (switching_texts safe c.joined.now c.switching.now
+      ++ (switching_texts safe c.switching.now
       ++ after_texts c.old.plan.now c.new.plan.now))
 
   -- what is switched, with what is done before and after if the plans differ beside lists and bars
   abbrev pub change_texts : (safe : Bool) → Change A → List (List ℕ)
   change_texts safe c = if differ c.old.plan.now c.new.plan.now then steps_texts safe c
-      else switching_texts safe c.joined.now c.switching.now
+      else switching_texts safe c.switching.now

@@ -50,4 +50,4 @@ module _ {A : Type 0} where
   abbrev pub asked_way_texts : (safe : Bool) → Change A → Switching A → List (List ℕ)
   asked_way_texts safe c (Ordered o) =
       if safe then way_texts c.old.plan.now c.new.plan.now o else order_word false ∷ []
-  asked_way_texts safe c (NoOrder p before after) = order_word false ∷ []
+  asked_way_texts safe c (NoOrder plans before after) = order_word false ∷ []

@@ -7,7 +7,7 @@ use crate::stages::{write_difference, write_stages};
 use crate::steps::{write_after, write_before};
 use std::alloc::Allocator;
 use tx_html::{PageSink, Part, set};
-use tx_join::{Joined, differ};
+use tx_join::differ;
 use tx_order::Switching;
 
 /// The change of an old plan into the plan of a page.
@@ -25,9 +25,7 @@ pub struct Change<'a, A: Allocator> {
     /// better, if both have a grade.
     pub worse: Option<u64>,
     pub better: Option<u64>,
-    /// Both plans over their joined network.
-    pub joined: &'a Joined<A>,
-    /// The order of switching over it, or what is wrong.
+    /// The order of switching over their joined network, or what is wrong.
     pub switching: &'a Switching<A>,
     /// The work at each exchange is shown too.
     pub by_exchange: bool,
@@ -70,12 +68,13 @@ done before the switching, or after it.</p>";
 /// Writes the stages, or all that differs.
 fn write_switching<A: Allocator, W: PageSink>(change: &Change<'_, A>, safe: bool, sink: &mut W)
     ensures { Sets W.seen sink.old sink.new
-        (switching_texts safe change.now.joined.now change.now.switching.now) }
+        (switching_texts safe change.now.switching.now) }
 {
     match change.switching {
         Switching::Ordered(order) if safe => write_stages(order, sink),
         Switching::Ordered(_) | Switching::NoOrder(_, _, _) => {
-            write_difference(change.joined, sink)
+            let (old, new) = change.switching.plans();
+            write_difference(old, new, sink)
         }
     }
 }

@@ -2,6 +2,7 @@
 ghost use Rattle.std.specs.Prelude.{◌≡◌, ◌∷◌, ◌++◌, length};
 ghost use Rattle.tx_html.specs.Shows.{Sets};
 ghost use Rattle.tx_order.specs.Ordered.{stages_in};
+ghost use Rattle.tx_order.specs.Switchings.{plans_of};
 ghost use Rattle.tx_plan.specs.Plan.{exchange_name};
 ghost use Rattle.tx_svg.specs.Indexed.{texts_below};
 ghost use Rattle.tx_page_change.specs.ChangeTexts.{exchange_texts};
@@ -114,12 +115,12 @@ fn write_switched<A: Allocator, W: PageSink>(
     sink: &mut W,
 )
     ensures { Sets W.seen sink.old sink.new
-        (switched_work_texts safe change.now.joined.now change.now.switching.now exchange) }
+        (switched_work_texts safe change.now.switching.now exchange) }
 {
     match change.switching {
         Switching::Ordered(order) if safe => write_stages(order, exchange, sink),
         Switching::Ordered(_) | Switching::NoOrder(_, _, _) => {
-            let (old, new) = (&change.joined.old, &change.joined.new);
+            let (old, new) = change.switching.plans();
             write_work(new, &Between::Plans(old, new), exchange, sink)
         }
     }
@@ -134,7 +135,8 @@ fn write_crew<A: Allocator, W: PageSink>(
 )
     ensures { Sets W.seen sink.old sink.new (crew_texts safe change.now exchange) }
 {
-    let name = change.joined.new.exchange_name(exchange);
+    let (_, network) = change.switching.plans();
+    let name = network.exchange_name(exchange);
     let (old, new) = (change.old.plan, change.new.plan);
     set(&[Part::Own("<section class=\"crew\">")], sink);
     write_named_work(new, &Between::New(new, old), name, sink);
@@ -146,9 +148,11 @@ fn write_crew<A: Allocator, W: PageSink>(
 /// Writes the work at each exchange.
 fn write_each<A: Allocator, W: PageSink>(change: &Change<'_, A>, safe: bool, sink: &mut W)
     ensures { Sets W.seen sink.old sink.new
-        (texts_below (length change.now.joined.now.new.exchanges) (crew_texts safe change.now)) }
+        (texts_below (length (plans_of change.now.switching.now).new.exchanges)
+        (crew_texts safe change.now)) }
 {
-    for index in 0..change.joined.new.exchanges() {
+    let (_, network) = change.switching.plans();
+    for index in 0..network.exchanges() {
         write_crew(change, safe, ExchangeId::of(index), sink);
     }
 }

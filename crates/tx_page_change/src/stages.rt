@@ -9,8 +9,8 @@ use crate::between::Between;
 use crate::table::write_table;
 use std::alloc::Allocator;
 use tx_html::{PageSink, Part, set};
-use tx_join::Joined;
 use tx_order::Order;
+use tx_plan::Plan;
 
 const ORDERED: &str =
     " in which the lists and bars of the old plan can be switched to those of this \
@@ -23,8 +23,8 @@ const NO_ORDER: &str =
 or in the network of both. Below are the lists and bars that would be switched.</p>";
 
 /// Writes that there is no order, and all lists and bars that would be switched.
-pub fn write_difference<A: Allocator, W: PageSink>(joined: &Joined<A>, sink: &mut W)
-    ensures { Sets W.seen sink.old sink.new (difference_texts joined.now.old joined.now.new) }
+pub fn write_difference<A: Allocator, W: PageSink>(old: &Plan<A>, new: &Plan<A>, sink: &mut W)
+    ensures { Sets W.seen sink.old sink.new (difference_texts old.now new.now) }
 {
     set(
         &[
@@ -34,7 +34,7 @@ pub fn write_difference<A: Allocator, W: PageSink>(joined: &Joined<A>, sink: &mu
         ],
         sink,
     );
-    write_table(&joined.new, &Between::Plans(&joined.old, &joined.new), sink);
+    write_table(new, &Between::Plans(old, new), sink);
 }
 
 /// Writes that there is an order, and its stages.

@@ -77,7 +77,7 @@ module _ {A : Type 0} where
       → Result (Ending A) CommandFault → Type 0
   EndsOrdered (Some n) asked old (Ordered o) = EndsAtStage asked old o n
   EndsOrdered None asked old (Ordered o) = EndsWith 0
-  EndsOrdered stage asked old (NoOrder p before after) = EndsWith 1
+  EndsOrdered stage asked old (NoOrder plans before after) = EndsWith 1
   EndsOrdered stage asked old (NewUnsound findings) = EndsWith 1
 
   abbrev pub OrderEnds : OrderRequest → Switched A → Result (Ending A) CommandFault → Type 0

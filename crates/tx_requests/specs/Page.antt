@@ -13,7 +13,7 @@ use Rattle.tx_rank.specs.declared.ranking.Ranking.{Ranking}
 use Rattle.tx_rank.specs.Grades.{AreRanksOfGrades}
 use Rattle.tx_audit.specs.Audits.{IsRightRanking}
 use Rattle.tx_join.specs.Joined.{joined_old, joined_new}
-use Rattle.tx_order.specs.Switchings.{IsRightSwitching}
+use Rattle.tx_order.specs.Switchings.{IsRightSwitching, plans_of}
 use Rattle.tx_risk.specs.NamedRisks.{NamedRisk}
 use Rattle.tx_risk.specs.Outages.{AreOutcomes, all_outages}
 use Rattle.tx_risk.specs.declared.cut.Outcome.{Outcome}
@@ -117,10 +117,10 @@ module _ {A : Type 0} where
   -- outages somebody is worse off, and better, if both have a grade
   pub record IsChangeOf (old new : Plan) (limit spare : ℕ) (risks : List NamedRisk) (f : Found A)
       (c : FoundChange A) : Type 0 where
-    pub joined : IsJoin old new c.joined
+    pub joined : IsJoin old new (plans_of c.switching)
     pub right : IsRightSwitching (joined_old old new) (joined_new old new) limit spare c.switching
     pub outlook : IsOutlookOf new risks false old c.outlook
-    pub counted : AreCounted old new c.joined.new risks c.outlook f c.worse c.better
+    pub counted : AreCounted old new (plans_of c.switching).new risks c.outlook f c.worse c.better
 
   -- that is told of an old plan, if one is asked for
   abbrev pub IsChangeIfAny : Option (PlanText A) → (new : Plan) → (limit spare : ℕ)
@@ -168,7 +168,6 @@ module _ {A : Type 0} where
     pub new_is : IsShownAs a.texts.plan.plan a.found.grade a.found.outcomes.items c.new
     pub worse : c.worse ≡ f.worse
     pub better : c.better ≡ f.better
-    pub joined : c.joined.now ≡ f.joined
     pub switching : c.switching.now ≡ f.switching
     pub by_exchange : c.by_exchange ≡ r.by_exchange
 

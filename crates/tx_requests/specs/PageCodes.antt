@@ -9,6 +9,7 @@ use Rattle.tx_rank.specs.declared.finding.Finding.{Finding}
 use Rattle.tx_rank.specs.declared.finding.Finding.TheVariants.{Ambiguous, Loop, Short, Long}
 use Rattle.tx_rank.specs.declared.ranking.Ranking.{Ranking}
 use Rattle.tx_rank.specs.declared.ranking.Ranking.TheVariants.{Found, Fails}
+use Rattle.tx_order.specs.Switchings.{plans_of}
 use Rattle.tx_commands.specs.declared.page.PageRequest.{PageRequest}
 use Rattle.tx_files.specs.declared.page_reading.PageTexts.{PageTexts}
 use Rattle.tx_files.specs.declared.two_plans.PlanText.{PlanText}
@@ -66,7 +67,8 @@ module _ {A : Type 0} where
   is_touched None change figures = false
   is_touched (Some old) None figures = false
   is_touched (Some old) (Some f) figures =
-      option_map_or (differs f.joined.old f.joined.new) (code_named old.plan figures) true
+      option_map_or (differs (plans_of f.switching).old (plans_of f.switching).new)
+      (code_named old.plan figures) true
 
   -- A page has the picture of a code: with `--all-codes` of each one, with `--code` of those that it
   -- names, and else of those with a finding and those that the change touches.

@@ -1,8 +1,6 @@
 // The change from an old plan that a page shows.
 ghost use Rattle.std.specs.Prelude.{◌≡◌, IfOk, IfErr};
 ghost use Rattle.std.specs.List.{AllByRecursion};
-ghost use Rattle.tx_order.specs.Switchings.{IsRightSwitching};
-ghost use Rattle.tx_join.specs.Joined.{joined_old, joined_new};
 ghost use Rattle.tx_files.specs.TwoPlans.{IsNoJoinOf};
 ghost use Rattle.tx_risk.specs.Compared.{AreInOrder};
 ghost use Rattle.tx_risk.specs.NamedRisks.{AreRisksFor};
@@ -12,7 +10,6 @@ use crate::compare::{Outlook, beside, outlook_of};
 use crate::page_found::Found;
 use std::alloc::{Allocator, Global};
 use tx_files::{CommandFault, PageTexts, PlanText, joined_of};
-use tx_join::Joined;
 use tx_order::{Switching, order};
 use tx_plan::{Limits, Plan};
 use tx_rank::Bounds;
@@ -23,9 +20,7 @@ use tx_text::NoMemory;
 /// What is found of the change of a plan into another one.
 #[derive(Drop)]
 pub struct FoundChange<A: Allocator = Global> {
-    /// Both over their joined network.
-    pub joined: Joined<A>,
-    /// The order of switching over it, or what is wrong.
+    /// The order of switching over their joined network, or what is wrong.
     pub switching: Switching<A>,
     /// What the old plan comes to.
     pub outlook: Outlook<A>,
@@ -73,12 +68,11 @@ fn change_between<A: Allocator + Copy>(
     ensures refused { IfErr result (IsNoJoinOf old.now new.now) }
 {
     let joined = joined_of(alloc, old, new)?;
-    let switching = switching_between(alloc, old, new, limits)?;
+    let switching = order(alloc, joined, limits)?;
+    let (_, network) = switching.plans();
     let outlook = outlook_of(alloc, &new.plan, risks, false, &old.plan)?;
-    let network = &joined.new;
     let (worse, better) = compare(alloc, network, risks, &old.plan, &outlook, &new.plan, found)?;
     Ok(FoundChange {
-        joined,
         switching,
         outlook,
         worse,
@@ -120,19 +114,4 @@ fn compare<A: Allocator + Copy>(
     let worse = if_both(was, is, count_worse_outages(&comparison));
     let better = if_both(was, is, count_better_outages(&comparison));
     Ok((worse, better))
-}
-
-/// The order of switching between two plans over their joined network, which takes both.
-fn switching_between<A: Allocator + Copy>(
-    alloc: A,
-    old: &PlanText<A>,
-    new: &PlanText<A>,
-    limits: Limits,
-) -> Result<Switching<A>, CommandFault>
-    ensures right { IfOk result (IsRightSwitching (joined_old old.now.plan new.now.plan)
-        (joined_new old.now.plan new.now.plan) limits.limit limits.spare) }
-    ensures refused { IfErr result (IsNoJoinOf old.now new.now) }
-{
-    let joined = joined_of(alloc, old, new)?;
-    Ok(order(alloc, joined.old, joined.new, limits)?)
 }

@@ -7,7 +7,6 @@ use crate::page_change::FoundChange;
 use std::alloc::Allocator;
 use tx_commands::PageRequest;
 use tx_files::{CommandFault, Named, PageTexts, PlanText, is_named, name_at};
-use tx_join::Joined;
 use tx_plan::{CodeId, ExchangeId, Plan};
 use tx_rank::{Finding, Ranking};
 
@@ -63,20 +62,24 @@ fn has_finding<A: Allocator>(ranking: &Ranking<A>, code: CodeId) -> bool
 }
 
 /// Whether an exchange has another list or another bar for a code in the new plan.
-fn differs_at<A: Allocator>(joined: &Joined<A>, code: CodeId, exchange: ExchangeId) -> bool
-    ensures { result ≡ differs_at joined.now.old joined.now.new code exchange }
+fn differs_at<A: Allocator>(
+    old: &Plan<A>,
+    new: &Plan<A>,
+    code: CodeId,
+    exchange: ExchangeId,
+) -> bool
+    ensures { result ≡ differs_at old.now new.now code exchange }
 {
-    let (old, new) = (&joined.old, &joined.new);
     let (was, is) = (old.is_barred(exchange, code), new.is_barred(exchange, code));
     old.list(exchange, code) != new.list(exchange, code) || was != is
 }
 
 /// Whether one of the exchanges has.
-fn differs<A: Allocator>(joined: &Joined<A>, code: CodeId) -> bool
-    ensures { result ≡ differs joined.now.old joined.now.new code }
+fn differs<A: Allocator>(old: &Plan<A>, new: &Plan<A>, code: CodeId) -> bool
+    ensures { result ≡ differs old.now new.now code }
 {
-    let mut exchanges = 0..joined.new.exchanges();
-    exchanges.any(|index| differs_at(joined, code, ExchangeId::of(index)))
+    let mut exchanges = 0..new.exchanges();
+    exchanges.any(|index| differs_at(old, new, code, ExchangeId::of(index)))
 }
 
 /// Whether a change touches the code of these figures, if there is a change.
@@ -89,7 +92,10 @@ fn is_touched<A: Allocator>(
 {
     match (old, change) {
         (Some(old), Some(change)) => match old.plan.code_named(figures) {
-            Some(code) => differs(&change.joined, code),
+            Some(code) => {
+                let (old, new) = change.switching.plans();
+                differs(old, new, code)
+            }
             None => true,
         },
         _ => false,

@@ -68,7 +68,6 @@ fn change_shown<'a, A: Allocator>(
         },
         worse: found.worse,
         better: found.better,
-        joined: &found.joined,
         switching: &found.switching,
         by_exchange: request.by_exchange,
     }

@@ -1,5 +1,5 @@
 -- The cuts of one code, one exchange after another.
-use Rattle.tx_risk.proofs.Common.{◌≡◌, ◌↔◌, ℕ, ◌+◌, ◌<◌, true, List, [], ◌∷◌, ◌++◌, map, inl, inr, length, Some, None, refl, sym, ap, subst, ◌∙◌, arith, append_assoc, append-nil, cases_eq, and_parts, none-some, same_Some, map-append, Plan, IsPlan, EachPair, is_origin_for, is_net, Among, among_left, among_right, among_cases, among_all, pairs_put, Net, Goes, AllDiffer, net_of, passed, certifies_code, Ways, Cut, Leg, Outage, Risk, net_without, IsCut, LeadsHome, Left, left_net, AreWaysFrom, Adds, AreCuts, AreCutsBefore}
+use Rattle.tx_risk.proofs.Common.{◌≡◌, ℕ, ◌+◌, ◌<◌, true, List, [], ◌∷◌, ◌++◌, map, inl, inr, length, Some, None, refl, sym, ap, subst, ◌∙◌, arith, append_assoc, append-nil, cases_eq, and_parts, none-some, same_Some, map-append, Plan, IsPlan, EachPair, is_origin_for, is_net, Among, among_left, among_right, among_cases, among_all, pairs_put, Net, Goes, AllDiffer, net_of, passed, certifies_code, Ways, Cut, Leg, Outage, Risk, net_without, IsCut, Left, left_net, AreWaysFrom, Adds, AreCuts, AreCutsBefore}
 use Rattle.tx_rank.specs.Heights.{IsReached}
 use Rattle.tx_rank.proofs.Ranks.{once_down}
 use Rattle.tx_risk.specs.Outages.{is_asked, IsCutAs, start_at}

@@ -1,5 +1,5 @@
 -- The names that most proofs here cite, passed on from one place. Declares nothing.
-pub use Rattle.std.proofs.Common.{Bool, Err, List, None, Ok, Option, Some, Vec, [], ap, append-nil, append_assoc, arith, codes, cond, eq-eqb, eqb-true, false, get_or, inl, inr, length, length-append, map, nat_lt, not, refl, rules, subst, suc, sym, take, tests, true, vec_capacity, vec_len, zero, ℕ, ◌&&◌, ◌++◌, ◌+◌, ◌<◌, ◌==◌, ◌↔◌, ◌∙◌, ◌∷◌, ◌≡◌, ◌≢◌, ◌≤◌, ◌⊎◌}
+pub use Rattle.std.proofs.Common.{Bool, Err, List, None, Ok, Option, Some, Vec, [], ap, append-nil, append_assoc, arith, codes, cond, eq-eqb, eqb-true, false, get_or, inl, inr, length, length-append, map, nat_lt, not, refl, rules, subst, suc, sym, take, tests, true, vec_capacity, vec_len, zero, ℕ, ◌&&◌, ◌++◌, ◌+◌, ◌<◌, ◌==◌, ◌∙◌, ◌∷◌, ◌≡◌, ◌≢◌, ◌≤◌, ◌⊎◌}
 pub use Rattle.std.proofs.Math.ListN.{set}
 pub use Rattle.std.proofs.lemmas.Bool.{and_parts, both_ways, cases_eq, eqb-false, false_from_ne_true, false≢true, ltb-false, ltb-true, ne_eqb, not-false, not-true}
 pub use Rattle.std.proofs.lemmas.Iterator.Search.{any_from_yields_List}
@@ -42,7 +42,7 @@ pub use Rattle.tx_plan.specs.Among.{Among}
 pub use Rattle.tx_plan.specs.Certified.{IsCertified, Ranks}
 pub use Rattle.tx_plan.specs.Circuits.{ends_of, far_end}
 pub use Rattle.tx_plan.specs.Codes.{code_of}
-pub use Rattle.tx_plan.specs.Declaring.{group_at, has_group}
+pub use Rattle.tx_plan.specs.Declaring.{has_group}
 pub use Rattle.tx_plan.specs.Plan.{Plan, group_name, group_named, home_of}
 pub use Rattle.tx_plan.specs.Routes.{is_barred, is_origin_for, route_list}
 pub use Rattle.tx_plan.specs.Rules.{EachPair, IsPlan}

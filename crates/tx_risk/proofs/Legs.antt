@@ -1,5 +1,5 @@
 -- Steps by legs, to which more legs are added.
-use Rattle.tx_risk.proofs.Common.{◌≡◌, ◌≢◌, ℕ, zero, suc, ◌+◌, Bool, List, [], ◌∷◌, ◌++◌, length, length-append, Option, Some, None, refl, sym, ap, ◌∙◌, subst, arith, slice_get, slice_get-get_or, slice_get_within, same_Some, Among, Net, end_of, Plan, Risk, Outage, Cut, Leg, Ways, Step, IsCut, IsDeadEnd, net_without, AreCutsBelow, AreWaysFrom, ways_in}
+use Rattle.tx_risk.proofs.Common.{◌≡◌, ◌≢◌, ℕ, zero, suc, ◌+◌, Bool, List, [], ◌∷◌, ◌++◌, length, length-append, Option, Some, None, refl, sym, ap, ◌∙◌, subst, arith, slice_get, slice_get-get_or, slice_get_within, Among, Net, end_of, Plan, Risk, Outage, Cut, Leg, Ways, Step, IsCut, IsDeadEnd, net_without, AreCutsBelow, AreWaysFrom, ways_in}
 use Rattle.std.proofs.Math.Seq.{get_or-append_seam}
 use Rattle.tx_plan.proofs.Lists.{slice_get_left}
 use Rattle.tx_risk.specs.Outages.{step_then, steps_from, IsCutAs}

@@ -13,7 +13,7 @@ use Rattle.tx_risk.specs.declared.outage.Outage.{Outage}
 use Rattle.tx_risk_report.specs.declared.comparison.Comparison.{Comparison}
 use Rattle.tx_risk_report.specs.declared.totals.Kind.{Kind}
 use Rattle.tx_risk_report.specs.declared.totals.Kind.TheVariants.{Risks, Groups, Exchanges}
-use Rattle.tx_risk_report.specs.OutageReport.{head_line, outage_words, is_of, harmless_line, counts_text, cut_line}
+use Rattle.tx_risk_report.specs.OutageReport.{head_text, outage_words, is_of, harmless_line, counts_text, cut_line}
 
 -- how the new plan stands to the old one, and a blank
 abbrev pub change_word : (worse better : Bool) → List ℕ
@@ -93,7 +93,7 @@ module _ {A : Type 0} where
 
     -- the grades, how many starts each outage cuts off, where the plans differ, and the verdict
     abbrev pub compared_text : (new old : Bounds) → List ℕ
-    compared_text new old = head_line (length c.outages.now) ++ (grades_line new old
+    compared_text new old = head_text c.risks.now (length c.outages.now) ++ (grades_line new old
         ++ (flat_map compared_total c.outages.now ++ (free_text
         ++ (flat_map compared_block c.outages.now ++ verdict_line (worse_count new old)))))
 

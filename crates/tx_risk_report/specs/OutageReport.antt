@@ -10,7 +10,7 @@ use Rattle.tx_risk.specs.declared.cut.Leg.{Leg}
 use Rattle.tx_risk.specs.declared.cut.Outcome.{Outcome}
 use Rattle.tx_risk.specs.declared.surviving.Survival.{Survival}
 use Rattle.tx_risk.specs.declared.surviving.Survival.TheVariants.{Tried, Ungraded}
-use Rattle.tx_risk.specs.NamedRisks.{NamedRisk, risk_name}
+use Rattle.tx_risk.specs.NamedRisks.{NamedRisk, risk_name, names_unknown}
 use Rattle.tx_risk_report.specs.declared.totals.Kind.{Kind}
 use Rattle.tx_risk_report.specs.declared.totals.Kind.TheVariants.{Risks, Groups, Exchanges}
 use Rattle.tx_rank.specs.Report.{step_text, verdict_line}
@@ -19,6 +19,16 @@ use Rattle.tx_rank.specs.GradeText.{grade_text}
 -- how many outages were tried
 abbrev pub head_line : ℕ → List ℕ
 head_line n = codes "SURVIVE RISKS " ++ (decimal n ++ codes "\n")
+
+-- the line of a risk that names groups which the plan has not
+abbrev pub unknown_line : List NamedRisk → ℕ → List ℕ
+unknown_line risks i = if names_unknown risks i
+    then codes "RISK " ++ (risk_name risks i ++ codes " PARTLY KNOWN\n") else []
+
+-- how many were tried, and each such risk
+abbrev pub head_text : List NamedRisk → ℕ → List ℕ
+head_text risks n =
+    head_line n ++ flat_map (unknown_line risks) (range_with_len 0 (length risks))
 
 -- what fails
 abbrev pub outage_words : Plan → List NamedRisk → Outage → List ℕ
@@ -111,7 +121,7 @@ module _ {A : Type 0} where
   -- how many outages were tried, how many starts each cuts off, whom, and the verdict
   abbrev pub tried_text : Plan → List NamedRisk → List (Outcome A) → List ℕ
   tried_text p risks outcomes =
-      head_line (length outcomes)
+      head_text risks (length outcomes)
       ++ (flat_map (total_text p risks) outcomes
       ++ (harmless_text outcomes
       ++ (flat_map (block_text p risks) outcomes

@@ -73,7 +73,7 @@ fn write_compared<A: Allocator, W: Sink>(
 )
     ensures { Puts W.taken W.failed sink.old sink.new (compared_text comparison.now new old) }
 {
-    write_head(comparison.outages.len(), sink);
+    write_head(comparison.risks, comparison.outages.len(), sink);
     write_grades(new, old, sink);
     write_compared_totals(comparison, sink);
     write_free(comparison, sink);

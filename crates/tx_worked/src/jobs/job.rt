@@ -2,6 +2,7 @@
 use crate::cases::{Ends, Refusing, Task};
 use crate::runs::{Script, is_in_event, run_after_yes, run_text, told_cause};
 use std::alloc::{Allocator, Global};
+use tx_commands::Command;
 use tx_files::{CommandFault, Ending, write_content};
 use tx_jobs::JobFault;
 use tx_plan::Limits;
@@ -85,16 +86,17 @@ impl Did {
     }
 }
 
-/// Writes what goes into the files that a command makes.
+/// Writes what goes into the files that a command asks for.
 fn write_contents<A: Allocator>(
+    command: &Command,
     ending: &Ending<A>,
     out: &mut MemorySink,
 ) -> Result<(), WriteFault> {
     let Some(made) = &ending.made else {
         return Ok(());
     };
-    for content in made.contents() {
-        if let Some(content) = content {
+    for (content, file) in made.contents().into_iter().zip(command.files().makes()) {
+        if let (Some(content), Some(_)) = (content, file) {
             write_content(content, out)?;
         }
     }
@@ -113,7 +115,7 @@ fn do_task<A: Allocator + Copy>(
     let mut third = ends.source(2, task.third);
     let command = task.command;
     let ending = do_command(alloc, command, &mut first, &mut second, &mut third, out)?;
-    let written = write_contents(&ending, out);
+    let written = write_contents(command, &ending, out);
     let status = ending.status;
     drop(ending);
     written?;

@@ -1,6 +1,6 @@
 use Rattle.std.proofs.Common.{◌≡◌, ◌∙◌, Bool, ◌||◌, codes, is_some, rules, refl, sym, ap, inl, inr}
 use Rattle.clap.specs.Words.{found_of, rows_of}
-use Rattle.tx_commands.specs.Commands.{Gives, GivesNow, AsksForStage, AreOfStage, AreOfWholePlan}
+use Rattle.tx_commands.specs.Commands.{GivesNow, AsksForStage, AreOfStage, AreOfWholePlan}
 use Rattle.tx_commands.proofs.order.order_of.Goals as goal
 use Rattle.tx_commands.proofs.order.order_of.Goals.{then-is_some, else-is_some, then-is_given-2+in_ok-spare, else-is_given-2, in-Some, in-Some-2, in-None+in_ok-number_of-in-None, in-None-3}
 

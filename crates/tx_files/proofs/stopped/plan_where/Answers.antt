@@ -21,3 +21,8 @@ returns-clause-plan g c = inr (_, c.in_ok-order.ensures.right, rw c.in-NoOrder.i
 
 pub returns-clause-calls : goal.returns-clause-calls
 returns-clause-calls g c = uncalled g.R.Source.called c.args.done.now
+
+pub returns-in-Ordered-clause-target : goal.returns-in-Ordered-clause-target
+returns-in-Ordered-clause-target g c =
+    let right = rw c.in-Ordered.is at c.in_ok-order.ensures.right in
+    rw (right.old_plan, right.new_plan) at c.plan_in.ensures.target

@@ -10,9 +10,9 @@ with_lists-requires g c =
     subst IsPlan (sym (with_stopped c.args.order c.args.stage _ c.in_ok-lists.lists lists))
     (stopped c.args.order c.rules.ensures.kept c.args.stage _).mixture.rules
 
-pub returns : goal.returns
-returns g c =
+pub returns-clause-plan : goal.returns-clause-plan
+returns-clause-plan g c =
     let lists = rw c.from.ensures at c.in_ok-lists.ensures in
     subst (IsStopped c.args.order c.args.stage _)
-    (sym (c.with_lists.ensures ∙ with_stopped c.args.order c.args.stage _ c.in_ok-lists.lists lists))
+    (sym (c.with_lists.ensures.plan ∙ with_stopped c.args.order c.args.stage _ c.in_ok-lists.lists lists))
     (stopped c.args.order c.rules.ensures.kept c.args.stage _)

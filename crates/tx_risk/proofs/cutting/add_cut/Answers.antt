@@ -1,4 +1,4 @@
-use Rattle.tx_risk.proofs.Common.{◌≡◌, ◌+◌, ℕ, Some, refl, subst, sym, ap, ◌∙◌, both_ways, Cut, Ways, Left, IsLeft, gone, left_net, AreWaysFrom, ways_in, Adds, AreCutsBefore}
+use Rattle.tx_risk.proofs.Common.{◌≡◌, ◌+◌, refl, subst, sym, ap, ◌∙◌, both_ways, Cut, Ways, Left, IsLeft, gone, left_net, AreWaysFrom, ways_in, Adds, AreCutsBefore}
 use Rattle.tx_risk.specs.Outages.{IsCutAs}
 use Rattle.tx_risk.proofs.AddedCuts.{none_cut, cut_as, graded_once, before_skip, before_more, asked_origin, asked_reached}
 use Rattle.tx_risk.proofs.cutting.add_cut.Goals as goal

@@ -1,4 +1,4 @@
-use Rattle.tx_risk.proofs.Common.{◌≡◌, ◌≢◌, ◌+◌, ◌∙◌, ◌++◌, ◌∷◌, [], ◌≤◌, ℕ, List, length, length-append, append-nil, append_assoc, slice_get_within, Vec, Some, not, refl, sym, ap, subst, arith, set, take_all, Among, route_list, filter_among, net_of, got_at, among_at, is_net, Leg, Ways, Step, Left, IsLeft, gone, left_net, nearest_step, has_way_home, ways_in, Grows}
+use Rattle.tx_risk.proofs.Common.{◌≡◌, ◌≢◌, ◌+◌, ◌∙◌, ◌++◌, ◌∷◌, [], ℕ, List, length, length-append, append-nil, append_assoc, slice_get_within, Vec, Some, not, refl, sym, ap, subst, arith, set, take_all, Among, route_list, filter_among, net_of, got_at, among_at, is_net, Leg, Ways, Step, Left, IsLeft, gone, left_net, nearest_step, has_way_home, ways_in, Grows}
 use Rattle.tx_risk.proofs.Ordering.{leads_left}
 use Rattle.tx_risk.proofs.LeftLists.{listed_away}
 use Rattle.tx_risk.proofs.Legs.{leg_of, ways_after}
