@@ -46,6 +46,9 @@ PAGES = ["README.md", "docs/FORMATS.md", "docs/HEADLINE.md"]
 LINKING = ["CHANGELOG.md", "CONTRIBUTING.md", "docs/ARCHITECTURE.md", "docs/DECISIONS.md", "docs/GLOSSARY.md", "docs/MEASURED.md", "docs/PROOFS.md"]
 PLAYED = "crates/tx_worked/data/cases"
 
+# When the pages of changes in examples/ are made: 2026-12-01, at midnight, as in the player's cases. The program takes it for the clock.
+os.environ["SOURCE_DATE_EPOCH"] = "1796083200"
+
 
 class Example:
     def __init__(self, line):
@@ -59,7 +62,7 @@ class Example:
         self.drives = "telexplan" in words
         self.words = words[words.index("telexplan") + 1 :] if self.drives else words[1:]
         made = [b for a, b in zip(self.words, self.words[1:]) if a in ("--counter", "--mixture", "--plan") or (a == "--cert" and self.words[0] != "run")]
-        if "--back" in self.words:
+        if "--back" in self.words and not self.drives:
             made = self.words[2:]
         self.made = made if self.status < 2 else []
         self.files = [it for it in self.words if it.startswith("examples/") and it not in self.made]
@@ -282,12 +285,12 @@ def codes_explained(*names):
 
 def words_explained():
     """The program's tables of words."""
-    return codes_explained("report_words", "run_words")
+    return codes_explained("report_words", "way_words", "run_words")
 
 
 def check_words_printed(tell):
     """The tables have each word in capitals that a command of the player of the gate prints, but for names that its texts declare. (`lint` prints words at fault too.)"""
-    reports = {"audit", "both", "certified", "change", "check", "checked", "codes", "fill", "grade", "mend", "order", "pipe", "run", "stage", "survive", "telling", "trace"}
+    reports = {"audit", "both", "certified", "change", "check", "checked", "codes", "fill", "grade", "mend", "onward", "order", "pipe", "return", "run", "stage", "survive", "telling", "trace"}
     known = {it.upper() for row in codes_explained() + words_explained() for it in row[:2]}
     for head, texts, prints in played():
         names = set(re.findall(r"(?m)^\s*(?:EXCHANGE|GROUP|RISK)\s+(\w+)", texts))
@@ -300,8 +303,8 @@ def codes_defined():
     """The codes and names of the definitions, and why calls end by the names of the table, since these codes have none."""
     text = lambda crate, name: read(f"crates/{crate}/specs/{name}.antt").decode()
     rows = set()
-    for crate, name in [("tx_text", "Rows"), ("tx_plantext", "PlanFaults"), ("tx_lint", "LintText"), ("tx_cert", "CertFaults"), ("tx_script", "ScriptFaults"), ("tx_risk", "RiskFaults")]:
-        rows.update(re.findall(r'\(codes "([APCSQX]\d+)", codes "(\w+)"\)', text(crate, name)))
+    for crate, name in [("tx_text", "Rows"), ("tx_plantext", "PlanFaults"), ("tx_lint", "LintText"), ("tx_cert", "CertFaults"), ("tx_script", "ScriptFaults"), ("tx_risk", "RiskFaults"), ("tx_order", "DoneText")]:
+        rows.update(re.findall(r'\(codes "([APCDSQX]\d+)", codes "(\w+)"\)', text(crate, name)))
         for framed in re.findall(r'frame_row((?: \(codes "\w+"\))+)', text(crate, name)):
             rows.update(zip(re.findall(r'"(\w+)"', framed), ["NoHeader", "NoEnd", "AfterEnd", "ReadFault"]))
     rows.update((b, a) for a, b in re.findall(r'refusal_text (\w+) = codes "(M\d+)"', text("tx_tickets", "Texts")))
@@ -431,8 +434,13 @@ def case_of(example):
         return f"checked{bounds}", b"---\n".join([plan, cert, script])
     kinds = {"run": telling_of(example.words), "codes": "codes", "grade": "grade"} | {it: it + bounds for it in ("check", "audit")}
     staged = example.option("--stage")
+    down = example.option("--down")
     kinds |= {"mend": f"mend{bounds}", "change": f"change{bounds}", "order": f"stage{bounds} {staged}" if staged else f"order{bounds}"}
-    kinds |= {"survive": "survive" if example.option("--risks") else "survive alone", "trace": asked_of(example, "--down"), "fill": asked_of(example, "--down"), "lint": " ".join(["lint", *["risks"] * bool(example.option("--risks")), *example.words[1:2]])}
+    kinds |= {"survive": "survive" if example.option("--risks") else " ".join(["survive alone", *filter(None, [down])]), "trace": asked_of(example, "--down"), "fill": asked_of(example, "--down"), "lint": " ".join(["lint", *["risks"] * bool(example.option("--risks")), *example.words[1:2]])}
+    if down and verb in ("audit", "mend", "order"):
+        kinds[verb] = f"{verb}-down{bounds} {down}"
+    if example.option("--done"):
+        kinds["order"] = f"return {staged}" if "--back" in example.words else " ".join(["onward", staged, *filter(None, [down])])
     if verb == "trace" and example.option("--from"):
         kinds["trace"] = "trace changes"
     if example.option("--through"):
@@ -453,9 +461,15 @@ def asked_of(example, last):
 
 def evidence_of(example):
     """What the player prints behind the report of an audit, of a change, of an order or of a mending: the files that an example makes of the same one."""
-    asked = lambda it: it.words[:1] + it.files + [it.option("--limit"), it.option("--spare"), it.option("--stage")]
+    asked = lambda it: it.words[:1] + it.files + [it.option(name) for name in ("--limit", "--spare", "--stage", "--down")]
     made = [it.made for it in examples() if it.made and asked(it) == asked(example)]
     return b"".join(map(read, made[0])) if made else b""
+
+
+def prints_of(example):
+    """What the case of an example prints. On a page the old plan has the name that it has there."""
+    old = dict(zip(example.words, example.words[1:])).get("--from") if example.words[:1] == ["page"] else None
+    return read(out_of(example)).replace(f"<b>{old}</b>, the plan before".encode(), b"<b>old</b>, the plan before")
 
 
 def cases():
@@ -467,7 +481,7 @@ def cases():
             seen.add(case)
             kind, text = case
             text += b"" if text.endswith(b"\n") else b"{}\n"
-            yield f"=== example-{example.name} {kind}\n".encode() + text + b"--- prints\n" + read(out_of(example)) + evidence_of(example)
+            yield f"=== example-{example.name} {kind}\n".encode() + text + b"--- prints\n" + prints_of(example) + evidence_of(example)
 
 
 def write_cases():

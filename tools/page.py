@@ -9,7 +9,9 @@ Of each page: its elements are closed in their order, its headings go down one s
 nothing is fetched, and nothing is on the console. Its verdict has its own colour.
 In its pictures no box is over another, no arrow runs through a box, and where the columns are ranks no arrow goes to the left. Its colours have the contrast of
 WCAG 2, level AA, in the light and in the dark scheme. It is not wider than a window of 390 points. Printed it shows its closed parts too, no word lies over another or is
-smaller than 7 points, no sheet is blank but for a title, and each sheet of a stage has its name."""
+smaller than 7 points, no sheet is blank but for a title, and each sheet of a stage has its name, and so each of the work at an exchange. The first sheet of a change has the
+whole decision, with the numbers that the other commands tell, and its verdict is green only if nothing is worse and there is an order."""
+import collections
 import html
 import html.parser
 import json
@@ -26,7 +28,7 @@ TOP = pathlib.Path(__file__).resolve().parent.parent
 
 # What is written on what, with the least contrast: 4.5 for text, 3 for lines and boxes.
 CONTRASTS = [(a, b, 4.5) for a in ("ink", "soft", "bad", "first", "second") for b in ("paper", "panel")]
-CONTRASTS += [("on", "good", 4.5), ("on", "bad", 4.5)]
+CONTRASTS += [("on", "good", 4.5), ("on", "bad", 4.5), ("on", "second", 4.5)]
 CONTRASTS += [(a, "panel", 3) for a in ("later", "good")]
 
 MEASURE = """<pre id="measured"></pre><script>
@@ -191,10 +193,26 @@ def sheets(page, folder):
         yield [(*map(float, it[:4]), html.unescape(it[4])) for it in found]
 
 
+CREWS = "The work at each exchange".split()
+
+
+def decision_of(text):
+    """The words on the first sheet of a change, from the name down to its first part; none of another page."""
+    if '<div class="t d">' not in text:
+        return []
+    first = text[text.index("<h1>"):text.index("<h2")]
+    first = re.sub("</?(?:b|strong|code)>", "", first)
+    return html.unescape(re.sub("<[^>]*>", " ", first)).replace("\u202f", " ").split()
+
+
 def print_faults(page, folder):
     """What is wrong with its sheets. A font of seven points has boxes of eight."""
     printed = list(sheets(page, folder))
-    within = False
+    within = crews = False
+    decision = decision_of(page.read_text())
+    lost = collections.Counter(decision) - collections.Counter(it[4] for it in printed[0])
+    if lost:
+        yield f"the first sheet lacks {' '.join(lost)!r}"
     for number, words in enumerate(printed, 1):
         texts = [it[4] for it in words]
         if len(texts) < 8 and number < len(printed):
@@ -205,9 +223,13 @@ def print_faults(page, folder):
                 wide, high = min(right, other[2]) - max(left, other[0]), min(below, other[3]) - max(top, other[1])
                 if wide > 1 and high > 0.4 * (below - top):
                     yield f"sheet {number}: {text} and {other[4]} lie over each other"
-        within = within and texts[:1] not in (["Codes"], ["After"]) or "Stage" in texts
-        if within and "Stage" not in texts:
+        crews = crews and texts[:1] != ["Codes"] or texts[:5] == CREWS
+        within = within and texts[:1] not in (["Codes"], ["After"], ["The"]) or "Stage" in texts
+        if within and not crews and "Stage" not in texts:
             yield f"sheet {number} is of a stage, and does not have its name"
+        if crews and not {"Stage", "Before", "After", "What"} & set(texts):
+            yield f"sheet {number} is of the work at an exchange, and does not have its name"
+        within, crews = (it and "Codes" not in texts for it in (within, crews))
     print(f"{page.name}: {len(printed)} sheets")
 
 
@@ -236,8 +258,11 @@ def faults_of(page, folder):
     yield from (f"<{it}> is not closed" for it in elements.open)
     yield from (f"a link leads to {it}, which is not there" for it in sorted(elements.links - elements.ids))
     yield from (f"it fetches: {it}" for it in re.findall(r"@import[^;]*|url\([^#)][^)]*\)|https?:[^\"' ]*", text))
-    if not re.search(r'<p class="v yes"><strong>YES<|<p class="v no"><strong>NO<', text):
+    if not re.search(r'<p class="v (yes|but)"><strong>YES<|<p class="v no"><strong>NO<', text):
         yield "the colour of the verdict is that of the other one"
+    doubtful = bool(decision_of(text)) and (">worse<" in text or "no safe order" in text)
+    if '<strong>YES<' in text and doubtful != ('<p class="v but">' in text):
+        yield "the verdict is green and something is worse, or it is not and nothing is"
     yield from contrast_faults(text)
     yield from browser_faults(page, folder)
 
@@ -256,17 +281,62 @@ def pages_made(program, folder):
     """Pages of the examples and of changes of three networks, as a program writes them."""
     asked = [("national", "--limit 2 --spare 1 --all-codes --risks examples/national.risks"), ("national-loop", "--limit 2 --spare 1"), ("national-short", "--limit 2 --spare 1"),
              ("national-long", "--limit 2 --spare 1"), ("national-ambiguous", "--limit 2 --spare 1"), ("gateway-loop", "--limit 1 --spare 0"),
-             ("three-barred-mended", "--limit 1 --spare 1 --from examples/three.plan"), ("national-loop-mended", "--limit 2 --spare 1 --from examples/national-loop.plan")]
+             ("three-barred-mended", "--limit 1 --spare 1 --from examples/three.plan"), ("three-opened", "--limit 1 --spare 0 --from examples/three.plan --by-exchange"),
+             ("national-loop-mended", "--limit 2 --spare 1 --from examples/national-loop.plan")]
     plans = [(name, f"examples/{name}.plan", options) for name, options in asked]
     for name, layers, codes in (("exchanges-36", 9, 12), ("exchanges-60", 15, 12), ("exchanges-256", 64, 4)):
         old, new = folder / f"{name}.old", folder / f"{name}.plan"
         for file, text in zip((old, new), network(layers, codes)):
             file.write_text(text)
-        plans.append((name, new, f"--limit 40 --spare 3 --from {old}"))
+        plans.append((name, new, f"--limit 40 --spare 3 --from {old}" + (" --by-exchange" if layers == 9 else "")))
     for name, plan, options in plans:
         page = folder / f"{name}.html"
-        page.write_bytes(subprocess.run([pathlib.Path(program).resolve(), "page", plan, *options.split()], cwd=TOP, capture_output=True).stdout)
-        yield page
+        page.write_bytes(told(program, "page", plan, *options.split()))
+        yield page, (plan, options.split())
+
+
+def told(program, *words):
+    """What the program prints."""
+    return subprocess.run([pathlib.Path(program).resolve(), *words], cwd=TOP, capture_output=True).stdout
+
+
+def sheet_of(program, new, options):
+    """The rows of the first sheet of a change that other commands tell, as they tell them."""
+    given = dict(zip(options, options[1:]))
+    old, numbers = given["--from"], ["--limit", given["--limit"], "--spare", given["--spare"]]
+    risks = ["--risks", given["--risks"]] if "--risks" in given else []
+    rows = {}
+    for plan in (old, new):
+        grade = re.match(r"GRADE LIMIT (\d+) SPARE (\d+)", told(program, "grade", plan).decode())
+        cuts = re.findall(r"(?m)^(?:RISK|GROUP|EXCHANGE) \S+ CUT (\d+) STRAY (\d+)$", told(program, "survive", plan, *risks).decode())
+        for i, label in enumerate(("Least transit limit", "Greatest spare number")):
+            rows.setdefault(label, []).append(grade[i + 1] if grade else "none")
+        for i, label in enumerate(("Outages that cut somebody off", "Outages that lead somebody astray")):
+            rows.setdefault(label, []).append(str(sum(it[i] != "0" for it in cuts)) if grade else "none")
+    both = "none" not in rows["Least transit limit"]
+    compared = told(program, "survive", new, "--from", old, *risks).decode()
+    rows["Outages after which somebody is worse off"] = [str(len(re.findall("(?m)^WORSE [^G]|^WORSE GROUP", compared))) if both else "none"]
+    order = told(program, "order", old, new, *numbers).decode()
+    lists = re.search(r"(?m)^LISTS \d+ NEW (\d+) CHANGED \d+ GONE (\d+)$", order)
+    stages = re.split(r"(?m)^STAGE \d+\n", order.partition("\nAFTER\n")[0])[1:]
+    if "VERDICT YES" in order:
+        switched = ", ".join(str(len(re.findall("(?m)^(?:ROUTE|NEW ROUTE|DROP) ", it))) for it in stages)
+        rows.update({"Stages of the change": [str(len(stages))], "Lists to install before": [lists[1]], "Lists to switch, stage by stage": [switched], "Lists to take away after": [lists[2]]})
+    else:
+        rows["Stages of the change"] = ["no safe order"]
+    return rows
+
+
+def sheet_faults(program, page, asked):
+    """Where the first sheet of a change has other numbers than the commands."""
+    plan, options = asked
+    if "--from" not in options:
+        return
+    for label, wanted in sheet_of(program, plan, options).items():
+        row = re.search(f'<th scope="row">{label}</th>(.*?)</tr>', page.read_text())
+        shown = [re.sub("<[^>]*>", "", it).replace("\u202f", "") for it in re.findall("<td[^>]*>(.*?)</td>", row[1])] if row else []
+        if [it for it in shown if it not in ("", "same", "better", "worse")] != [it for it in wanted if it]:
+            yield f"{label}: the sheet has {shown}, and the commands {wanted}"
 
 
 def main(words):
@@ -283,8 +353,11 @@ def main(words):
     wrong = count = 0
     with tempfile.TemporaryDirectory() as folder:
         made = pages_made(options["--program"], pathlib.Path(folder)) if "--program" in options else []
-        for page in [*map(pathlib.Path, words), *made]:
+        for page, asked in [*((pathlib.Path(it), None) for it in words), *made]:
             count += 1
+            for fault in sheet_faults(options["--program"], page, asked) if asked else ():
+                wrong += 1
+                print(f"{page.name}: {fault}")
             if page.stem.startswith("national") and page.stat().st_size > 45000:
                 wrong += 1
                 print(f"{page.name}: more than 45,000 bytes")

@@ -4,11 +4,13 @@ from random import Random
 
 from audit import is_safe, judge_audit, judge_cert_faults, judge_codes, judge_grade
 from change import judge_change
+from down import judge_down
 from families import FAMILIES, PAIRS, SMALL, ambiguous_plans, code_plans, packed, random_network, random_pair, random_plan, random_risks, seeded
 from lint import judge_lint, spoiled
 from mend import is_mendable, judge_mend
 from order import judge_order
 from plans import contradiction
+from stopped import judge_stopped
 from survive import grade_of, judge_from, judge_survive
 from traces import judge_through, judge_way_changes
 
@@ -128,6 +130,29 @@ def random_trace(rng):
     return 1, judge
 
 
+def random_down(rng):
+    """A random pair of plans while some groups, or those of an exchange, are down, and perhaps one that is not there."""
+    old, new = random_pair(rng)
+    while contradiction(old, new):
+        old, new = random_pair(rng)
+    groups = [*{**old.groups, **new.groups}, *(["ZZ9"] if rng.random() < 0.1 else [])]
+    down = rng.sample(groups, min(len(groups), rng.choice((0, 1, 1, 2, 3))))
+    exchange = rng.choice([*old.exchanges, *new.exchanges]) if not down or rng.random() < 0.2 else None
+    at = numbers_of(rng)
+    return 1, lambda program: judge_down(program, old, new, at, down, exchange)
+
+
+def random_stop(rng):
+    """An order between a random pair of plans, most of them safe, that is stopped in each stage, perhaps since a group failed."""
+    at, (old, new) = numbers_of(rng), random_pair(rng)
+    while contradiction(old, new) or not (is_safe(old, *at) and is_safe(new, *at)) and rng.random() < 0.95:
+        old, new = random_pair(rng)
+    groups = [*{**old.groups, **new.groups}]
+    down = rng.choice(groups) if groups and rng.random() < 0.4 else None
+    now = rng.randrange(at[1] + 1) if rng.random() < 0.8 else at[1] + 1
+    return 1, lambda program: judge_stopped(program, old, new, at, now, down, rng)
+
+
 def random_lint(rng):
     """The text of a random plan, most often with a few mistakes."""
     text = spoiled(rng, random_plan(rng).text)
@@ -149,5 +174,7 @@ TOPICS = {
     **{f"order: {name}": lambda it=it: pairs(*it, judge_order, 4096) for name, it in PAIRS.items()},
     "order: random": lambda: seeded(800, "orders", random_change(judge_order)),
     "survive --from: random": lambda: seeded(800, "comparisons", random_comparison),
+    "down: random": lambda: seeded(400, "downs", random_down),
+    "stopped: random": lambda: seeded(400, "stops", random_stop),
     "trace: random": lambda: seeded(800, "traces", random_trace),
 }

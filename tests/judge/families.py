@@ -188,8 +188,9 @@ def seeded(count, seed, make):
 
 
 def random_risks(rng, plan):
-    """Up to three risks, each of up to three groups."""
-    return [(f"R{n}", rng.sample(list(plan.groups), rng.randint(1, min(3, len(plan.groups))))) for n in range(rng.randint(0, 3))]
+    """Up to three risks, each of up to three groups. In some a group is meant that no plan has."""
+    groups = [*plan.groups, *["Z9"] * (rng.random() < 0.2)]
+    return [(f"R{n}", rng.sample(groups, rng.randint(1, min(3, len(groups))))) for n in range(rng.randint(0, 3))]
 
 
 def random_network(rng):

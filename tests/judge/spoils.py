@@ -98,6 +98,7 @@ def too_early(parts):
 # The topic whose cases are spoiled, of each command.
 CASES = dict.fromkeys(("audit", "check", "grade", "survive"), "audit, check, grade, survive: random")
 CASES["from"] = "survive --from: random"  # of `survive`
+CASES["stopped"] = "stopped: random"  # of `order`
 CASES.update({"codes": "codes: one exchange", **{it: f"{it}: random" for it in ("lint", "mend", "change", "order", "trace")}})
 
 # Each spoil: the commands whose answers it changes, and how.
@@ -154,6 +155,9 @@ WAYS = [
     ("order", "a list a stage too early", stages(too_early)),
     ("order", "a bar set for one lifted", put("^UNBAR", "BAR")),
     ("order", "a finding of the other plan", put("^OLD F", "NEW F")),
+    ("stopped", "an order from the old plan", put("^(ONWARD|RETURN)", "ORDER")),
+    ("stopped", "back for onward", put("^ONWARD", "RETURN")),
+    ("stopped", "a list switched twice", put(r"^((?:ONWARD|RETURN).*\nSTAGE 1\n)(ROUTE .*\n)", r"\1\2\2")),
     ("trace", "a call left out", without("CODE")),
     ("trace", "a call from another exchange", put(r"^(CODE \d+ FROM) \w+", r"\1 NONE")),
     ("trace", "one change more", put(r"^(TRACE CHANGES )(\d+)", more)),
@@ -171,6 +175,7 @@ WAYS = [
     ("survive", "cut off for astray", put("^STRAY", "CUT")),
     ("survive", "astray for cut off", put("^CUT", "STRAY")),
     ("survive", "an outage left out", without(r"(GROUP|EXCHANGE|RISK) \w+ CUT")),
+    ("survive", "a risk that is known in part left out", without(r"RISK \w+ PARTLY")),
     ("survive", "one outage more", put(r"^(SURVIVE RISKS )(\d+)", more)),
     ("survive", "one group more", put(r"^(GROUPS )(\d+)", more)),
     ("survive", "one cut more in the totals", put(r"^(\w+ \w+ CUT )(\d+)", more)),
@@ -215,7 +220,7 @@ def try_spoil(path, number):
     """Spoils the answers to some cases. Answers whether each is refused, and what is to be told."""
     command, what, spoil = SPOILS[number]
     spoiled, count, taken = [], 0, []
-    program = Program(path, lambda ran: ran.words[0] == {"from": "survive"}.get(command, command) and spoil(ran) and spoiled.append(ran))
+    program = Program(path, lambda ran: ran.words[0] == {"from": "survive", "stopped": "order"}.get(command, command) and spoil(ran) and spoiled.append(ran))
     for _, judge in TOPICS[CASES[command]]():
         spoiled.clear()
         try:

@@ -75,14 +75,26 @@ def totals(counted):
     return rows
 
 
-def text_of(risks):
-    return "\n".join(["RISKS 1", *(f"RISK {name} {' '.join(it)}" for name, it in risks), "END\n"])
+def partly_known(risks, groups):
+    """The names of the risks that name other groups than these."""
+    return [name for name, it in risks if not set(it) <= set(groups)]
+
+
+def text_of(risks, groups):
+    """The risks as a text. Risks that name other groups than these have a header of version 2."""
+    header = f"RISKS {2 if partly_known(risks, groups) else 1}"
+    return "\n".join([header, *(f"RISK {name} {' '.join(it)}" for name, it in risks), "END\n"])
+
+
+def head_of(count, risks, groups):
+    """The first lines of the report of so many outages."""
+    return [f"SURVIVE RISKS {count}", *(f"RISK {name} PARTLY KNOWN" for name in partly_known(risks, groups))]
 
 
 def judge_survive(program, plan, risks, only=False):
     """Judges the report of all outages of a plan."""
     words = ["survive", "p", "--risks", "r"] + ["--risks-only"] * only
-    ran = program.run(words, {"p": plan.text, "r": text_of(risks)})
+    ran = program.run(words, {"p": plan.text, "r": text_of(risks, plan.groups)})
     views = plan.views
     if plan.ambiguous or not all(survey(it).grade() for it in views.values()):
         grade = program.run(["grade", "p"], {"p": plan.text})
@@ -90,7 +102,7 @@ def judge_survive(program, plan, risks, only=False):
         return
     tried = [(name, failed, cuts_of(views, failed, failing)) for name, failed, failing in outages(plan, risks, only)]
     counted = [(name, *counts(cuts)) for name, _, cuts in tried]
-    head = [f"SURVIVE RISKS {len(tried)}", *totals(counted)]
+    head = [*head_of(len(tried), risks, plan.groups), *totals(counted)]
     rows = ran.out.splitlines()
     judge_verdict(rows, not any(cuts for _, _, cuts in tried), ran.status, sum(len(cuts) for _, _, cuts in tried))
     need(rows[:len(head)] == head, f"the totals are {rows[:len(head)]} and not {head}")
@@ -134,7 +146,7 @@ def judge_other(plan, rows, cuts, others, failed):
 def judge_from(program, old, new, risks, only=False):
     """Judges the report of all outages of two plans that do not contradict each other."""
     words = ["survive", "n", "--from", "o", "--risks", "r"] + ["--risks-only"] * only
-    ran = program.run(words, {"o": old.text, "n": new.text, "r": text_of(risks)})
+    ran = program.run(words, {"o": old.text, "n": new.text, "r": text_of(risks, {**old.groups, **new.groups})})
     for plan, head in ((new, ""), (old, "WAS ")):
         if grade_of(plan) is None:
             grade = program.run(["grade", "p"], {"p": plan.text})
@@ -149,7 +161,7 @@ def judge_from(program, old, new, risks, only=False):
     both = [(name, *(side.get(name, (frozenset(), {})) for side in sides)) for name in names]
     (l, k), (m, j) = map(grade_of, (new, old))
     said = [standing(l > m or k < j, m > l or j < k)]
-    head = [f"SURVIVE RISKS {len(names)}", f"{said[0]} GRADE LIMIT {l} SPARE {k} WAS LIMIT {m} SPARE {j}"]
+    head = [*head_of(len(names), risks, {**old.groups, **new.groups}), f"{said[0]} GRADE LIMIT {l} SPARE {k} WAS LIMIT {m} SPARE {j}"]
     for name, (_, now), (_, then) in both:
         said.append(standing(worse_off(now, then), worse_off(then, now)))
         if now or then:

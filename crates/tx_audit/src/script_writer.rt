@@ -36,6 +36,7 @@ pub fn write_counter<A: Allocator, W: Sink>(
 }
 
 /// Writes a line for each event.
+#[tactic(auto, using(tx_text::proofs::Putting::puts_none, tx_text::proofs::Putting::puts_more, tx_text::proofs::Putting::puts_all))]
 fn write_events<A: Allocator, W: Sink>(plan: &Plan<A>, events: &[Event], sink: &mut W)
     ensures { Puts W.taken W.failed sink.old sink.new
         (flat_map (event_text plan.now) events.now) }

@@ -1,4 +1,6 @@
 // How certificates are written.
+#![tactic(auto, using(tx_text::proofs::Putting::puts_none, tx_text::proofs::Ranges::lines_more, tx_text::proofs::Ranges::lines_done))]
+
 ghost use Rattle.std.specs.Prelude.{◌≡◌, length, true, OnOk, OnErr};
 ghost use Rattle.std.specs.Io.KnownBytes.{append_known};
 ghost use Rattle.std.specs.List.{flat_map, range_with_len};

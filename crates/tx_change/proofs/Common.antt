@@ -22,6 +22,7 @@ pub use Rattle.tx_plan.specs.Among.{Among}
 pub use Rattle.tx_plan.specs.Certified.{Ranks}
 pub use Rattle.tx_plan.specs.Mixtures.{AreCommon, EachMixture, IsMixture, SameNetwork}
 pub use Rattle.tx_plan.specs.Plan.{Plan, Route, home_of}
+pub use Rattle.tx_plan.specs.declared.ids.Pair.{Pair}
 pub use Rattle.tx_plan.specs.Routes.{is_barred, is_origin, is_origin_for, route_list}
 pub use Rattle.tx_plan.specs.Rules.{IsPlan}
 pub use Rattle.tx_rank.proofs.Certifying.{none_true}

@@ -3,12 +3,11 @@ use Rattle.std.proofs.Common.{◌≡◌, ◌≢◌, ℕ, zero, suc, ◌+◌, ◌
 use mathlib.Core.Bool.{beq}
 use Rattle.tx_change.proofs.Common.{filter, slice_get, option_map, list_any, Plan, Route, route_list}
 use Rattle.std.proofs.lemmas.Bool.{ne_eqb, cases_eq, and_left, and_right, and_parts}
-use Rattle.tx_plan.specs.declared.ids.Pair.{Pair}
 use Rattle.tx_plan.specs.Rules.{EachPair, IsPlan}
 use Rattle.tx_plan.proofs.Filtered.{any_out}
 use Rattle.tx_plan.proofs.ListFound.{list_found}
 use Rattle.tx_machine.proofs.Lists.{at_index}
-use Rattle.tx_change.specs.inner.Kept.{keeps, kept_alone, has_route_as, has_bar_as}
+use Rattle.tx_change.specs.inner.Kept.{keeps, kept_alone}
 
 module _ {A : Type 0} (s : A → Bool) where
   pub kept_more : (xs : List A) (i : ℕ) → filter s (take (suc i) xs) ≡ filter s (take i xs) ++ kept_alone s (slice_get xs i)
@@ -35,70 +34,46 @@ any_joined t (x ∷ xs) ys h k =
       | false ↦ λ e. any_joined t xs ys e k
     ] h
 
-module _ (s : Route → Bool) where
-  route_fresh : (rs : List Route) (i : ℕ) (r : Route) → EachPair (λ q r. q.exchange ≡ r.exchange → q.code ≢ r.code) rs → slice_get rs i ≡ Some r → has_route_as r (filter s (take i rs)) ≡ false
-  route_fresh [] zero r d at = refl
-  route_fresh [] (suc i) r d at = refl
-  route_fresh (q ∷ rs) zero r d at = refl
-  route_fresh (q ∷ rs) (suc i) r d at =
-      let rest = route_fresh rs i r d.1 at in
-      let apart = at_index (λ (r : Route). q.exchange ≡ r.exchange → q.code ≢ r.code) rs d.0 i r at in
-      let t : ((q.exchange == r.exchange) && (q.code == r.code)) ≡ false = elim (cases_eq q.exchange r.exchange) [
-        | inr n ↦ and_left (q.exchange == r.exchange) (q.code == r.code) (ne_eqb q.exchange r.exchange n)
-        | inl m ↦ and_right (q.exchange == r.exchange) (q.code == r.code) (ne_eqb q.code r.code (apart m))
-      ] in
-      elim (s q) as (λ b. has_route_as r (cond b (q ∷ filter s (take i rs)) (filter s (take i rs))) ≡ false) [
-        | true ↦ ap (λ b. b || has_route_as r (filter s (take i rs))) t ∙ rest
-        | false ↦ rest
-      ]
+-- entries that have an exchange and a code each
+module _ {A : Type 0} (exchange code : A → ℕ) where
+  abbrev like : A → A → Bool
+  like r q = (exchange q == exchange r) && (code q == code r)
 
-  -- the next one is not there yet
-  pub route_new : (old now rs : List Route) (i : ℕ) (r : Route) → EachPair (λ q r. q.exchange ≡ r.exchange → q.code ≢ r.code) rs → slice_get rs i ≡ Some r → now ≡ old ++ filter s (take i rs) → has_route_as r old ≡ false → has_route_as r now ≡ false
-  route_new old now rs i r d at e h = ap (has_route_as r) e ∙ any_joined (λ (q : Route). (q.exchange == r.exchange) && (q.code == r.code)) old (filter s (take i rs)) h (route_fresh rs i r d at)
+  abbrev differ : A → A → Type 0
+  differ q r = exchange q ≡ exchange r → code q ≢ code r
 
-module _ (s : Pair → Bool) where
-  bar_fresh : (rs : List Pair) (i : ℕ) (r : Pair) → EachPair (λ q r. q.exchange ≡ r.exchange → q.code ≢ r.code) rs → slice_get rs i ≡ Some r → has_bar_as r (filter s (take i rs)) ≡ false
-  bar_fresh [] zero r d at = refl
-  bar_fresh [] (suc i) r d at = refl
-  bar_fresh (q ∷ rs) zero r d at = refl
-  bar_fresh (q ∷ rs) (suc i) r d at =
-      let rest = bar_fresh rs i r d.1 at in
-      let apart = at_index (λ (r : Pair). q.exchange ≡ r.exchange → q.code ≢ r.code) rs d.0 i r at in
-      let t : ((q.exchange == r.exchange) && (q.code == r.code)) ≡ false = elim (cases_eq q.exchange r.exchange) [
-        | inr n ↦ and_left (q.exchange == r.exchange) (q.code == r.code) (ne_eqb q.exchange r.exchange n)
-        | inl m ↦ and_right (q.exchange == r.exchange) (q.code == r.code) (ne_eqb q.code r.code (apart m))
-      ] in
-      elim (s q) as (λ b. has_bar_as r (cond b (q ∷ filter s (take i rs)) (filter s (take i rs))) ≡ false) [
-        | true ↦ ap (λ b. b || has_bar_as r (filter s (take i rs))) t ∙ rest
-        | false ↦ rest
-      ]
+  module _ (s : A → Bool) where
+    fresh : (rs : List A) (i : ℕ) (r : A) → EachPair differ rs → slice_get rs i ≡ Some r → list_any (like r) (filter s (take i rs)) ≡ false
+    fresh [] zero r d at = refl
+    fresh [] (suc i) r d at = refl
+    fresh (q ∷ rs) zero r d at = refl
+    fresh (q ∷ rs) (suc i) r d at =
+        let rest = fresh rs i r d.1 at in
+        let apart = at_index (differ q) rs d.0 i r at in
+        let t : like r q ≡ false = elim (cases_eq (exchange q) (exchange r)) [
+          | inr n ↦ and_left (exchange q == exchange r) (code q == code r) (ne_eqb (exchange q) (exchange r) n)
+          | inl m ↦ and_right (exchange q == exchange r) (code q == code r) (ne_eqb (code q) (code r) (apart m))
+        ] in
+        elim (s q) as (λ b. list_any (like r) (cond b (q ∷ filter s (take i rs)) (filter s (take i rs))) ≡ false) [
+          | true ↦ ap (λ b. b || list_any (like r) (filter s (take i rs))) t ∙ rest
+          | false ↦ rest
+        ]
 
-  pub bar_new : (old now rs : List Pair) (i : ℕ) (r : Pair) → EachPair (λ q r. q.exchange ≡ r.exchange → q.code ≢ r.code) rs → slice_get rs i ≡ Some r → now ≡ old ++ filter s (take i rs) → has_bar_as r old ≡ false → has_bar_as r now ≡ false
-  bar_new old now rs i r d at e h = ap (has_bar_as r) e ∙ any_joined (λ (q : Pair). (q.exchange == r.exchange) && (q.code == r.code)) old (filter s (take i rs)) h (bar_fresh rs i r d at)
+    -- the next one is not there yet
+    pub next_new : (old now rs : List A) (i : ℕ) (r : A) → EachPair differ rs → slice_get rs i ≡ Some r → now ≡ old ++ filter s (take i rs) → list_any (like r) old ≡ false → list_any (like r) now ≡ false
+    next_new old now rs i r d at e h = ap (list_any (like r)) e ∙ any_joined (like r) old (filter s (take i rs)) h (fresh rs i r d at)
 
--- WHAT STANDS IN THE NEW PLAN IS NOT KEPT OF THE OLD ONE
-
-pub route_not_before : (taken : ℕ → ℕ → Bool) (r : Route) → taken r.exchange r.code ≡ true → (rs : List Route) → has_route_as r (filter (λ q. not (taken q.exchange q.code)) rs) ≡ false
-route_not_before taken r h rs =
-    any_out (λ (q : Route). (q.exchange == r.exchange) && (q.code == r.code)) (λ q. not (taken q.exchange q.code))
-    (λ z q.
-    let a = and_parts (z.exchange == r.exchange) (z.code == r.code) q in
-    let e = eqb-true z.exchange r.exchange a.0 in
-    let f = eqb-true z.code r.code a.1 in
-    let alike : taken z.exchange z.code ≡ taken r.exchange r.code = λ i. taken (e i) (f i) in
-    ap not (alike ∙ h))
-    rs
-
-pub bar_not_before : (taken : ℕ → ℕ → Bool) (r : Pair) → taken r.exchange r.code ≡ true → (rs : List Pair) → has_bar_as r (filter (λ q. not (taken q.exchange q.code)) rs) ≡ false
-bar_not_before taken r h rs =
-    any_out (λ (q : Pair). (q.exchange == r.exchange) && (q.code == r.code)) (λ q. not (taken q.exchange q.code))
-    (λ z q.
-    let a = and_parts (z.exchange == r.exchange) (z.code == r.code) q in
-    let e = eqb-true z.exchange r.exchange a.0 in
-    let f = eqb-true z.code r.code a.1 in
-    let alike : taken z.exchange z.code ≡ taken r.exchange r.code = λ i. taken (e i) (f i) in
-    ap not (alike ∙ h))
-    rs
+  -- what stands in the new plan is not kept of the old one
+  pub not_before : (taken : ℕ → ℕ → Bool) (r : A) → taken (exchange r) (code r) ≡ true → (rs : List A) → list_any (like r) (filter (λ q. not (taken (exchange q) (code q))) rs) ≡ false
+  not_before taken r h rs =
+      any_out (like r) (λ q. not (taken (exchange q) (code q)))
+      (λ z q.
+      let a = and_parts (exchange z == exchange r) (code z == code r) q in
+      let e = eqb-true (exchange z) (exchange r) a.0 in
+      let f = eqb-true (code z) (code r) a.1 in
+      let alike : taken (exchange z) (code z) ≡ taken (exchange r) (code r) = λ i. taken (e i) (f i) in
+      ap not (alike ∙ h))
+      rs
 
 -- THE ENTRY AT AN INDEX
 

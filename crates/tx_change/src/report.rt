@@ -1,4 +1,6 @@
 // The writer of the report of a change.
+#![tactic(auto, using(tx_text::proofs::Putting::puts_none, tx_text::proofs::Putting::puts_then, tx_text::proofs::Putting::puts_more, tx_text::proofs::Putting::puts_all))]
+
 ghost use Rattle.std.specs.Prelude.{codes};
 ghost use Rattle.tx_text.specs.Puts.{Puts};
 ghost use Rattle.tx_text.specs.Wrote.{Wrote};

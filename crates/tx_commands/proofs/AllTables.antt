@@ -1,5 +1,5 @@
 -- What holds of the entries of all tables, as it holds of the table.
-use Rattle.std.proofs.Common.{◌≡◌, ◌∙◌, ℕ, Bool, false, true, ◌||◌, List, [], ◌∷◌, ◌++◌, map, refl, sym, ap, append_assoc}
+use Rattle.std.proofs.Common.{◌≡◌, ◌∙◌, ℕ, Bool, ◌||◌, List, [], ◌∷◌, ◌++◌, map, refl, sym, ap, append_assoc}
 use Rattle.std.proofs.Math.Bool.{or_assoc}
 use Rattle.tx_commands.proofs.Common.{Bor, flat_map, list_any}
 use Rattle.tx_commands.specs.Entries.{Texts, texts}

@@ -1,4 +1,5 @@
 -- What a parse of words found, as the commands that it asks for.
+use Rattle.std.proofs.Common.{arith}
 use Rattle.tx_commands.proofs.Common.{◌≡◌, ◌∙◌, ℕ, true, List, [], ◌∷◌, ◌++◌, map, Option, None, Some, option_map, codes, refl, sym, ap, subst, Bor, flat_map, join_by}
 use Rattle.clap.specs.Words.{App, HasMatchesOf, Row, Text, first_of, found_of, is_simple, rows_of, subcommand_of, subcommand_rows_of}
 use Rattle.clap.specs.declared.parser.matches.ArgMatches.{ArgMatches}
@@ -10,7 +11,6 @@ use Rattle.tx_commands.specs.Commands.{IsFoundIn, line_of}
 use Rattle.tx_commands.specs.inner.Refused.{IsClash, IsRefused}
 use Rattle.tx_commands.specs.declared.command.Command.{Command}
 use Rattle.tx_commands.specs.declared.misuse.Misuse.{Misuse}
-use Rattle.tx_commands.specs.declared.misuse.Misuse.TheVariants.{Incomplete, Together, CheckedTelling, StageMissing, RisksOnly, TraceWords, Number, NoSuchCode, InputTwice, Overwrites, NoMemory}
 
 -- the word that was read for an id is the first that was found for it
 pub first_found : (m : ArgMatches) (id : List ℕ) (word : Option (Bor (List ℕ)))
@@ -54,14 +54,4 @@ found_by P app words m is has found =
 -- words that ask for a command of which two files clash are refused for that
 pub refused_for_clash : (found : Option (Text × List Row)) (command : Command) (misuse : Misuse)
     → IsFoundIn found command → IsClash command misuse → IsRefused found misuse
-refused_for_clash found command InputTwice asked clash = (command, asked, clash)
-refused_for_clash found command (Overwrites name) asked clash = (command, asked, clash)
-refused_for_clash found command Incomplete asked clash = tt
-refused_for_clash found command Together asked clash = absurd clash
-refused_for_clash found command CheckedTelling asked clash = absurd clash
-refused_for_clash found command StageMissing asked clash = absurd clash
-refused_for_clash found command RisksOnly asked clash = absurd clash
-refused_for_clash found command TraceWords asked clash = absurd clash
-refused_for_clash found command (Number option word) asked clash = absurd clash
-refused_for_clash found command (NoSuchCode word) asked clash = absurd clash
-refused_for_clash found command NoMemory asked clash = tt
+refused_for_clash found command misuse asked clash = grind arith

@@ -7,6 +7,7 @@ use Rattle.tx_commands.specs.declared.text_faults.TheConstants.{TEXT_FAULTS}
 use Rattle.tx_commands.specs.declared.run_codes.TheConstants.{RUN_CODES}
 use Rattle.tx_commands.specs.declared.plan_codes.TheConstants.{PLAN_CODES}
 use Rattle.tx_commands.specs.declared.report_words.TheConstants.{REPORT_WORDS}
+use Rattle.tx_commands.specs.declared.way_words.TheConstants.{WAY_WORDS}
 use Rattle.tx_commands.specs.declared.run_words.TheConstants.{RUN_WORDS}
 
 -- a code or a word, its name, what it means, and what to do about it
@@ -22,7 +23,7 @@ abbrev pub texts : List (Bor (List ℕ)) → Texts
 texts e = (text_at e 0, text_at e 1, text_at e 2, text_at e 3)
 
 -- the table, as its texts: the codes of faults of texts, those that a run prints, those of what is
--- wrong with a plan, the words of reports, and those of a run
+-- wrong with a plan, the words of reports, of outages and ways, and of a run
 unfoldable pub table : List Texts
 table = map (λ e. let t = get_or e in (
   (t 0 (record { now = [] })).now,
@@ -30,7 +31,7 @@ table = map (λ e. let t = get_or e in (
   (t 2 (record { now = [] })).now,
   (t 3 (record { now = [] })).now,
 ))
-    (TEXT_FAULTS ++ (RUN_CODES ++ (PLAN_CODES ++ (REPORT_WORDS ++ RUN_WORDS))))
+    (TEXT_FAULTS ++ (RUN_CODES ++ (PLAN_CODES ++ (REPORT_WORDS ++ (WAY_WORDS ++ RUN_WORDS)))))
 
 -- a word asks for an entry by its code or its name, in capitals or small letters
 abbrev pub is_asked_by : List ℕ → Texts → Bool

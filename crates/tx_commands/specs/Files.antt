@@ -99,7 +99,7 @@ page_files r = record (only_read (Some (string_bytes r.plan) ∷ option_map stri
 abbrev pub file_names : Command → FileNames
 file_names Pipe = one_read standard_input
 file_names (Run r) = run_files r
-file_names (RunTelling r) = two_read (string_bytes r.plan) (string_bytes r.script)
+file_names (RunTelling r) = run_files r.run
 file_names (Check r) = two_read (string_bytes r.plan) (string_bytes r.cert)
 file_names (Lint r) =
     only_read (Some (string_bytes r.plan) ∷ option_map string_bytes r.risks ∷ None ∷ [])
@@ -113,10 +113,11 @@ file_names (Change r) = record (two_read (string_bytes r.old) (string_bytes r.ne
   cert = option_map string_bytes r.cert;
   script = option_map string_bytes r.counter;
 }
-file_names (Order r) = record (two_read (string_bytes r.old) (string_bytes r.new)) {
-  plan = option_map string_bytes r.plan;
-  cert = option_map string_bytes r.cert;
-}
+file_names (Order r) = record (only_read (Some (string_bytes r.old) ∷ Some (string_bytes r.new)
+    ∷ option_map string_bytes r.done ∷ [])) {
+      plan = option_map string_bytes r.plan;
+      cert = option_map string_bytes r.cert;
+    }
 file_names (Mend r) = record (one_read (string_bytes r.plan)) {
   plan = option_map string_bytes r.mended;
   cert = option_map string_bytes r.cert;

@@ -30,9 +30,9 @@ limit = number_option (codes "limit") 62
 abbrev pub spare : Rule
 spare = number_option (codes "spare") 15
 
--- the option of the number of a stage
-abbrev pub stage : Rule
-stage = number_option (codes "stage") 128
+-- with what is down: groups, and an exchange of which all groups are
+abbrev pub with_down : App → App
+with_down app = with_rule (with_rule app (option (codes "down"))) (option (codes "down-exchange"))
 
 -- an argument that has to be given
 abbrev pub needed_rule : Rule → Rule
@@ -61,7 +61,7 @@ lint_words = with_rule (plan_words (codes "lint")) (option (codes "risks"))
 
 -- the arguments of `grade`
 abbrev pub grade_words : App
-grade_words = plan_words (codes "grade")
+grade_words = with_down (plan_words (codes "grade"))
 
 -- the arguments of `codes`
 abbrev pub codes_words : App
@@ -70,31 +70,31 @@ codes_words = plan_words (codes "codes")
 -- the arguments of `audit`
 abbrev pub audit_words : App
 audit_words =
-    with_rule (with_rule (with_rule (with_rule
+    with_down (with_rule (with_rule (with_rule (with_rule
     (plan_words (codes "audit")) (needed_rule limit)) (needed_rule spare))
-    (option (codes "cert"))) (option (codes "counter"))
+    (option (codes "cert"))) (option (codes "counter")))
 
 -- a command with a plan, and an option that names another one, so the plan goes by another id
 abbrev pub mend_words : App
 mend_words =
-    with_rule (with_rule (with_rule (with_rule (with_rule
+    with_down (with_rule (with_rule (with_rule (with_rule (with_rule
     (new_app (codes "mend")) (file (codes "before"))) (needed_rule limit)) (needed_rule spare))
-    (option (codes "plan"))) (option (codes "cert"))
+    (option (codes "plan"))) (option (codes "cert")))
 
 -- the arguments of `survive`
 abbrev pub survive_words : App
 survive_words =
-    with_rule (with_rule (with_rule
+    with_down (with_rule (with_rule (with_rule
     (plan_words (codes "survive")) (option (codes "risks"))) (flag (codes "risks-only")))
-    (option (codes "from"))
+    (option (codes "from")))
 
 -- the arguments of `page`
 abbrev pub page_words : App
 page_words =
-    with_rule (with_rule (with_rule (with_rule (with_rule (with_rule (with_rule
+    with_down (with_rule (with_rule (with_rule (with_rule (with_rule (with_rule (with_rule (with_rule
     (plan_words (codes "page")) (needed_rule limit)) (needed_rule spare))
     (option (codes "risks"))) (option (codes "from"))) (option (codes "code")))
-    (flag (codes "all-codes"))) (option (codes "html"))
+    (flag (codes "all-codes"))) (flag (codes "by-exchange"))) (option (codes "html")))
 
 -- a word that goes by position, and need not be given
 abbrev pub word : List ℕ → Rule
@@ -117,16 +117,19 @@ fill_words =
 -- a command whose words are two plans
 abbrev pub change_words : App
 change_words =
-    with_rule (with_rule (with_rule (with_rule (with_rule (with_rule (with_rule
+    with_down (with_rule (with_rule (with_rule (with_rule (with_rule (with_rule (with_rule
     (new_app (codes "change")) (file (codes "before"))) (file (codes "after"))) (needed_rule limit))
-    (needed_rule spare)) (option (codes "cert"))) (option (codes "mixture"))) (option (codes "counter"))
+    (needed_rule spare)) (option (codes "cert"))) (option (codes "mixture"))) (option (codes "counter")))
 
--- two plans, and what is to be made of a stage
+-- two plans, what is to be made of a stage, and where the order was stopped
 abbrev pub order_words : App
 order_words =
-    with_rule (with_rule (with_rule (with_rule (with_rule (with_rule (with_rule
+    with_down (with_rule (with_rule (with_rule (with_rule (with_rule (with_rule (with_rule
+    (with_rule (with_rule (with_rule
     (new_app (codes "order")) (file (codes "before"))) (file (codes "after"))) (needed_rule limit))
-    (needed_rule spare)) stage) (option (codes "plan"))) (option (codes "cert"))
+    (needed_rule spare)) (number_option (codes "stage") 128)) (option (codes "plan")))
+    (option (codes "cert"))) (option (codes "done"))) (flag (codes "back")))
+    (number_option (codes "spare-now") 15))
 
 -- one or more words, which need not be given
 abbrev pub some_words : List ℕ → Rule

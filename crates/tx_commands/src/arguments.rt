@@ -13,7 +13,8 @@ bars; - is standard input";
 
 /// What the help says of the named risks.
 pub(crate) const RISKS: &str = "The named risks, such as cables: lines RISK name
-group .., between RISKS 1 and END; - is standard input";
+group .., between RISKS 1 and END; - is standard
+input";
 
 pub(crate) const OLD_PLAN: &str = "The plan that is in force; - is standard input";
 
@@ -22,17 +23,15 @@ pub(crate) const NEW_PLAN: &str = "The plan that is to be; - is standard input";
 /// What the help says of the groups that are down.
 pub(crate) const DOWN: &str = "The groups that are down, with a comma between two";
 
+/// What it says of an exchange of which all groups are.
+pub(crate) const DOWN_EXCHANGE: &str = "An exchange of which all groups are down";
+
 const LIMIT: &str = "At most how many transits a call may pass: 0 to 62";
 
 const SPARE: &str = "How many groups may be down: 0 to 15. After YES, a
 call is answered NC only after a second head-on
 collision, or where more than K groups are listed and
 each of them is down or has no free circuit";
-
-const STAGE: &str = "The stage of which --plan and --cert write: from 0";
-
-/// How many stages an order has at the most.
-pub(crate) const MOST_STAGES: u8 = 128;
 
 /// A command with its arguments so far, unless memory ran out.
 #[derive(Drop)]
@@ -142,12 +141,13 @@ impl<'a> Syntax<'a> {
         self.arg(limit).arg(spare)
     }
 
-    /// Adds the number of a stage.
-    pub(crate) fn stage(self) -> Syntax<'a>
-        ensures { (app : App) → Takes self.entry app → Takes result (with_rule app grammar.stage) }
+    /// Adds an option with a number from 0 to the greatest.
+    pub(crate) fn number(self, id: &'a str, shown: &'a str, help: &'a str, most: u8) -> Syntax<'a>
+        ensures { (app : App) → Takes self.entry app
+            → Takes result (with_rule app (grammar.number_option id.now most)) }
     {
-        let stage = number(self.alloc, "stage", "N", STAGE, MOST_STAGES);
-        self.arg(stage)
+        let number = number(self.alloc, id, shown, help, most);
+        self.arg(number)
     }
 }
 

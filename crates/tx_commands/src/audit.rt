@@ -5,8 +5,9 @@ ghost use Rattle.tx_commands.specs.Commands.{Asks};
 ghost use Rattle.tx_commands.specs.Grammar.{audit_words};
 ghost use Rattle.tx_commands.specs.inner.Refused.{IsRefused};
 
-use crate::arguments::Syntax;
+use crate::arguments::{DOWN, DOWN_EXCHANGE, Syntax};
 use crate::command::Command;
+use crate::down::{Down, down_asked};
 use crate::given::{limits, text};
 use crate::misuse::Misuse;
 use clap::ArgMatches;
@@ -21,6 +22,7 @@ pub struct AuditRequest {
     pub limits: Limits,
     pub cert: Option<String>,
     pub counter: Option<String>,
+    pub down: Option<Down>,
 }
 
 const AUDIT_HELP: &str = "Example: telexplan audit own.plan --limit 1 --spare 1 --cert own.cert
@@ -49,6 +51,8 @@ pub(crate) fn audit_grammar<'a>(alloc: Global) -> Result<clap::Command<'a>, Allo
         "After NO, write a script to this file that shows the
 first finding that has one",
     )
+    .option("down", "GROUP,..", DOWN)
+    .option("down-exchange", "X", DOWN_EXCHANGE)
     .command
 }
 
@@ -64,10 +68,12 @@ pub(crate) fn audit_of(alloc: Global, matches: &ArgMatches<'_>) -> Result<Comman
     let cert = text(alloc, matches, "cert")?;
     let counter = text(alloc, matches, "counter")?;
     let limits = limits(alloc, matches)?;
+    let down = down_asked(alloc, matches, cert.is_some() || counter.is_some())?;
     Ok(Command::Audit(AuditRequest {
         plan,
         limits,
         cert,
         counter,
+        down,
     }))
 }

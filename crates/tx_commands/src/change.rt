@@ -5,8 +5,9 @@ ghost use Rattle.tx_commands.specs.Commands.{Asks};
 ghost use Rattle.tx_commands.specs.Grammar.{change_words};
 ghost use Rattle.tx_commands.specs.inner.Refused.{IsRefused};
 
-use crate::arguments::{NEW_PLAN, OLD_PLAN, Syntax};
+use crate::arguments::{DOWN, DOWN_EXCHANGE, NEW_PLAN, OLD_PLAN, Syntax};
 use crate::command::Command;
+use crate::down::{Down, down_asked};
 use crate::given::{limits, text};
 use crate::misuse::Misuse;
 use clap::ArgMatches;
@@ -23,6 +24,7 @@ pub struct ChangeRequest {
     pub cert: Option<String>,
     pub mixture: Option<String>,
     pub counter: Option<String>,
+    pub down: Option<Down>,
 }
 
 const CHANGE_HELP: &str = "Example: telexplan change own.plan new.plan --limit 1 --spare 1
@@ -61,6 +63,8 @@ file that shows the first finding that has a walk",
         "After NO, write a script to this file that shows the
 same finding in that plan, if there is one",
     )
+    .option("down", "GROUP,..", DOWN)
+    .option("down-exchange", "X", DOWN_EXCHANGE)
     .command
 }
 
@@ -75,6 +79,8 @@ pub(crate) fn change_of(alloc: Global, matches: &ArgMatches<'_>) -> Result<Comma
     let cert = text(alloc, matches, "cert")?;
     let mixture = text(alloc, matches, "mixture")?;
     let counter = text(alloc, matches, "counter")?;
+    let made = cert.is_some() || mixture.is_some() || counter.is_some();
+    let down = down_asked(alloc, matches, made)?;
     let limits = limits(alloc, matches)?;
     match (old, new) {
         (Some(old), Some(new)) => Ok(Command::Change(ChangeRequest {
@@ -84,6 +90,7 @@ pub(crate) fn change_of(alloc: Global, matches: &ArgMatches<'_>) -> Result<Comma
             cert,
             mixture,
             counter,
+            down,
         })),
         _ => Err(Misuse::Incomplete),
     }

@@ -8,12 +8,13 @@ use crate::report_words::REPORT_WORDS;
 use crate::run_codes::RUN_CODES;
 use crate::run_words::RUN_WORDS;
 use crate::text_faults::TEXT_FAULTS;
+use crate::way_words::WAY_WORDS;
 
 /// A code or a word, its name, what it means, and what to do about it.
 pub(crate) type Entry = [&'static str; 4];
 
 /// All entries, by subjects.
-pub(crate) fn tables() -> [&'static [Entry]; 5]
+pub(crate) fn tables() -> [&'static [Entry]; 6]
     ensures { flat_map (λ t. map texts t.now) result ≡ table }
 {
     [
@@ -21,6 +22,7 @@ pub(crate) fn tables() -> [&'static [Entry]; 5]
         &RUN_CODES,
         &PLAN_CODES,
         &REPORT_WORDS,
+        &WAY_WORDS,
         &RUN_WORDS,
     ]
 }

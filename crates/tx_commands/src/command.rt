@@ -76,7 +76,7 @@ impl Command {
         match self {
             Command::Pipe => Files::of_one(STANDARD_INPUT),
             Command::Run(request) => run_files(request),
-            Command::RunTelling(request) => Files::of_two(&request.plan, &request.script),
+            Command::RunTelling(request) => run_files(&request.run),
             Command::Check(request) => Files::of_two(&request.plan, &request.cert),
             Command::Lint(request) => {
                 Files::reading([Some(&request.plan), request.risks.as_deref(), None])
@@ -92,10 +92,10 @@ impl Command {
                 script: request.counter.as_deref(),
                 ..Files::of_two(&request.old, &request.new)
             },
-            Command::Order(request) => Files {
-                plan: request.plan.as_deref(),
-                cert: request.cert.as_deref(),
-                ..Files::of_two(&request.old, &request.new)
+            Command::Order(order) => Files {
+                plan: order.plan.as_deref(),
+                cert: order.cert.as_deref(),
+                ..Files::reading([Some(&order.old), Some(&order.new), order.done.as_deref()])
             },
             Command::Mend(request) => Files {
                 plan: request.mended.as_deref(),
@@ -107,7 +107,7 @@ impl Command {
             Command::Page(request) => page_files(request),
             Command::TraceChanges(request) => Files::of_two(&request.plan, &request.old),
             Command::Codes(CodesRequest { plan })
-            | Command::Grade(GradeRequest { plan })
+            | Command::Grade(GradeRequest { plan, .. })
             | Command::Trace(TraceRequest { plan, .. })
             | Command::TraceThrough(ThroughRequest { plan, .. })
             | Command::Fill(FillRequest { plan, .. }) => Files::of_one(plan),

@@ -5,8 +5,9 @@ ghost use Rattle.tx_commands.specs.Commands.{Asks};
 ghost use Rattle.tx_commands.specs.Grammar.{grade_words};
 ghost use Rattle.tx_commands.specs.inner.Refused.{IsRefused};
 
-use crate::arguments::Syntax;
+use crate::arguments::{DOWN, DOWN_EXCHANGE, Syntax};
 use crate::command::Command;
+use crate::down::{Down, down_asked};
 use crate::given::text;
 use crate::misuse::Misuse;
 use clap::ArgMatches;
@@ -16,6 +17,7 @@ use std::alloc::{AllocError, Global};
 #[derive(Drop)]
 pub struct GradeRequest {
     pub plan: String,
+    pub down: Option<Down>,
 }
 
 const GRADE_HELP: &str = "Example: telexplan grade own.plan
@@ -33,6 +35,8 @@ pub(crate) fn grade_grammar<'a>(alloc: Global) -> Result<clap::Command<'a>, Allo
         "Say with which transit limits and spare numbers a plan is safe",
         GRADE_HELP,
     )
+    .option("down", "GROUP,..", DOWN)
+    .option("down-exchange", "X", DOWN_EXCHANGE)
     .command
 }
 
@@ -45,5 +49,6 @@ pub(crate) fn grade_of(alloc: Global, matches: &ArgMatches<'_>) -> Result<Comman
     let Some(plan) = text(alloc, matches, "plan")? else {
         return Err(Misuse::Incomplete);
     };
-    Ok(Command::Grade(GradeRequest { plan }))
+    let down = down_asked(alloc, matches, false)?;
+    Ok(Command::Grade(GradeRequest { plan, down }))
 }

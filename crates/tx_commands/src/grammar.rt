@@ -100,20 +100,6 @@ pub(crate) fn asked_grammar<'a>(
 ) -> Result<clap::Command<'a>, AllocError> {
     let command = match name {
         "" => return grammar(alloc),
-        "run" => run_grammar(alloc)?,
-        "codes" => codes_grammar(alloc)?,
-        "trace" => trace_grammar(alloc)?,
-        "fill" => fill_grammar(alloc)?,
-        "explain" => explain_grammar(alloc)?,
-        _ => judging_command(alloc, name)?,
-    };
-    let called = format!(in alloc; "telexplan {name}")?;
-    command.bin_name(called.as_str())
-}
-
-/// One of the commands that judge a plan, alone.
-fn judging_command<'a>(alloc: Global, name: &str) -> Result<clap::Command<'a>, AllocError> {
-    match name {
         "lint" => lint_grammar(alloc),
         "audit" => audit_grammar(alloc),
         "grade" => grade_grammar(alloc),
@@ -122,6 +108,13 @@ fn judging_command<'a>(alloc: Global, name: &str) -> Result<clap::Command<'a>, A
         "order" => order_grammar(alloc),
         "survive" => survive_grammar(alloc),
         "page" => page_grammar(alloc),
+        "run" => run_grammar(alloc),
+        "codes" => codes_grammar(alloc),
+        "trace" => trace_grammar(alloc),
+        "fill" => fill_grammar(alloc),
+        "explain" => explain_grammar(alloc),
         _ => check_grammar(alloc),
-    }
+    };
+    let called = format!(in alloc; "telexplan {name}")?;
+    command?.bin_name(called.as_str())
 }

@@ -5,8 +5,9 @@ ghost use Rattle.tx_commands.specs.Commands.{Asks};
 ghost use Rattle.tx_commands.specs.Grammar.{mend_words};
 ghost use Rattle.tx_commands.specs.inner.Refused.{IsRefused};
 
-use crate::arguments::{PLAN, Syntax};
+use crate::arguments::{DOWN, DOWN_EXCHANGE, PLAN, Syntax};
 use crate::command::Command;
+use crate::down::{Down, down_asked};
 use crate::given::{limits, text};
 use crate::misuse::Misuse;
 use clap::ArgMatches;
@@ -21,6 +22,7 @@ pub struct MendRequest {
     pub limits: Limits,
     pub mended: Option<String>,
     pub cert: Option<String>,
+    pub down: Option<Down>,
 }
 
 const MEND_HELP: &str = "Example: telexplan mend own.plan --limit 1 --spare 1 --plan new.plan
@@ -42,13 +44,17 @@ pub(crate) fn mend_grammar<'a>(alloc: Global) -> Result<clap::Command<'a>, Alloc
     .option(
         "plan",
         "OUT",
-        "After YES, write the plan with these lists to this file",
+        "After YES, write the plan with these lists to this
+file",
     )
     .option(
         "cert",
         "CERT",
-        "After YES, write a certificate of that plan to this file",
+        "After YES, write a certificate of that plan to this
+file",
     )
+    .option("down", "GROUP,..", DOWN)
+    .option("down-exchange", "X", DOWN_EXCHANGE)
     .command
 }
 
@@ -63,11 +69,13 @@ pub(crate) fn mend_of(alloc: Global, matches: &ArgMatches<'_>) -> Result<Command
     };
     let mended = text(alloc, matches, "plan")?;
     let cert = text(alloc, matches, "cert")?;
+    let down = down_asked(alloc, matches, mended.is_some() || cert.is_some())?;
     let limits = limits(alloc, matches)?;
     Ok(Command::Mend(MendRequest {
         plan,
         limits,
         mended,
         cert,
+        down,
     }))
 }

@@ -12,17 +12,17 @@ pub(crate) enum Misuse {
     Incomplete,
     /// `run` has some of its three options, and not all.
     Together,
-    /// `run` has a certificate, and is to print more.
-    CheckedTelling,
     /// The number of this option has a sign or leading zeros.
     Number(&'static str, String),
-    /// `order` has a file to be made, and no stage.
+    /// `order` has a file to be made, or words that say where it was stopped, and no stage.
     StageMissing,
     /// `survive` has `--risks-only` without `--risks`.
     RisksOnly,
     /// `trace` has none of an exchange and a code, `--through` and `--from`, or some that do not go
     /// together.
     TraceWords,
+    /// A file is to be made of a plan of which something is down.
+    DownFiles,
     /// `explain` has these words, of which none is explained.
     NoSuchCode(String),
     /// Standard input is to be read for two files.
@@ -44,15 +44,16 @@ impl From<AllocError> for Misuse {
 
 /// The codes and words that are explained.
 const EXPLAINED: &str = "There are X1 to X3, P3 to P22, A1 to A10, C1 to C10, S1 to S7, Q1 to Q11,
-M1 to M12, K1 to K7 and F1 to F5, those of a ticket, as NC or CLRA, the names,
-as Overlap, and the words of reports, as CUT";
+D1 to D8, M1 to M12, K1 to K7 and F1 to F5, those of a ticket, as NC or CLRA,
+the names, as Overlap, and the words of reports, as CUT";
 
 impl Misuse {
     /// What kind of refusal it is, as the library of command lines has them.
     pub(crate) fn kind(&self) -> ErrorKind {
         match self {
-            Misuse::CheckedTelling | Misuse::InputTwice | Misuse::Overwrites(_) =>
-                ErrorKind::ArgumentConflict,
+            Misuse::DownFiles | Misuse::InputTwice | Misuse::Overwrites(_) => {
+                ErrorKind::ArgumentConflict
+            }
             Misuse::Number(..) | Misuse::NoSuchCode(_) => ErrorKind::InvalidValue,
             Misuse::StageMissing | Misuse::RisksOnly | Misuse::TraceWords =>
                 ErrorKind::MissingRequiredArgument,
@@ -62,23 +63,22 @@ impl Misuse {
 
     /// What is said of it.
     pub(crate) fn message(&self, alloc: Global) -> Result<String, AllocError> {
-        match self {
-            Misuse::Number(option, word) => format!(in alloc;
+        let reason = match self {
+            Misuse::Number(option, word) => return format!(in alloc;
                 "invalid value '{word}' for '--{option}': a number has no sign and no leading zeros"
             ),
-            Misuse::NoSuchCode(line) => format!(in alloc; "no such code: {line:?}\n\n{EXPLAINED}"),
-            Misuse::Overwrites(file) => format!(in alloc;
+            Misuse::NoSuchCode(line) => return format!(in alloc;
+                "no such code: {line:?}\n\n{EXPLAINED}"
+            ),
+            Misuse::Overwrites(file) => return format!(in alloc;
                 "a file to be made has the name of another file of the command, or is named -: {file:?}"
             ),
-            _ => String::from_str(alloc, self.reason()),
-        }
-    }
-
-    /// What is said of it, where no word of the command line is said too.
-    fn reason(&self) -> &'static str {
-        match self {
-            Misuse::CheckedTelling => "--strict, --echo and --summary do not go with --cert",
-            Misuse::StageMissing => "--plan and --cert go with --stage",
+            Misuse::DownFiles => {
+                "--down and --down-exchange do not go with --cert, --counter, --mixture and --plan"
+            }
+            Misuse::StageMissing => {
+                "--plan, --cert, --done, --back and --spare-now go with --stage"
+            }
             Misuse::RisksOnly => "--risks-only goes with --risks",
             Misuse::TraceWords =>
                 "trace takes an exchange and a code, --through, or --from without --down",
@@ -86,6 +86,7 @@ impl Misuse {
                 "standard input, which is named -, can be read for one file alone"
             }
             _ => "a command is missing",
-        }
+        };
+        String::from_str(alloc, reason)
     }
 }

@@ -5,8 +5,9 @@ ghost use Rattle.tx_commands.specs.Commands.{Asks};
 ghost use Rattle.tx_commands.specs.Grammar.{page_words};
 ghost use Rattle.tx_commands.specs.inner.Refused.{IsRefused};
 
-use crate::arguments::{RISKS, Syntax};
+use crate::arguments::{DOWN, DOWN_EXCHANGE, RISKS, Syntax};
 use crate::command::Command;
+use crate::down::{Down, down_asked};
 use crate::given::{is_set, limits, text};
 use crate::misuse::Misuse;
 use clap::ArgMatches;
@@ -14,7 +15,7 @@ use std::alloc::{AllocError, Global};
 use tx_plan::Limits;
 
 /// `page PLAN --limit L --spare K`: a page about the plan, with the named risks of a file, if one is
-/// named, with the stages from an old plan, if one is named, and with pictures of the lists for all
+/// named, with the change from an old plan, if one is named, and with pictures of the lists for all
 /// codes, or for those of which the figures are given, if either is asked for. It may go into a
 /// file.
 #[derive(Drop)]
@@ -25,7 +26,11 @@ pub struct PageRequest {
     pub old: Option<String>,
     pub code: Option<String>,
     pub all_codes: bool,
+    pub by_exchange: bool,
     pub html: Option<String>,
+    pub down: Option<Down>,
+    /// When it is asked, in seconds since 1970. No word says so.
+    pub moment: Option<u64>,
 }
 
 const PAGE_HELP: &str = "The page is one file, which needs no other and fetches nothing. It has the
@@ -53,17 +58,24 @@ pub(crate) fn page_grammar<'a>(alloc: Global) -> Result<clap::Command<'a>, Alloc
     .option(
         "from",
         "OLD",
-        "The plan that is in force: show in which stages its lists
-change into those of the plan; - is standard input",
+        "The plan that is in force: show in which stages its
+lists change into those of the plan; - is standard
+input",
     )
     .option(
         "code",
         "CODES",
-        "Show the lists of these codes alone, by their figures,
-with a comma between two",
+        "Show the lists of these codes alone, by their
+figures, with a comma between two",
     )
     .flag("all-codes", "Show the lists of each code")
+    .flag(
+        "by-exchange",
+        "With --from, show the work at each exchange too",
+    )
     .option("html", "OUT", "Write the page to this file")
+    .option("down", "GROUP,..", DOWN)
+    .option("down-exchange", "X", DOWN_EXCHANGE)
     .command
 }
 
@@ -80,7 +92,9 @@ pub(crate) fn page_of(alloc: Global, matches: &ArgMatches<'_>) -> Result<Command
     let old = text(alloc, matches, "from")?;
     let code = text(alloc, matches, "code")?;
     let all_codes = is_set(matches, "all-codes");
+    let by_exchange = is_set(matches, "by-exchange");
     let html = text(alloc, matches, "html")?;
+    let down = down_asked(alloc, matches, false)?;
     let limits = limits(alloc, matches)?;
     Ok(Command::Page(PageRequest {
         plan,
@@ -89,6 +103,9 @@ pub(crate) fn page_of(alloc: Global, matches: &ArgMatches<'_>) -> Result<Command
         old,
         code,
         all_codes,
+        by_exchange,
         html,
+        down,
+        moment: None,
     }))
 }

@@ -1,8 +1,8 @@
-// Words of reports, and of the texts that go with them.
+// Words of reports of audits, changes, orders and mended lists.
 use crate::code_table::Entry;
 
-/// The words of reports, of a plan and of a certificate.
-pub static REPORT_WORDS: [Entry; 61] = [
+/// The words of reports, and of the lists and bars in them.
+pub static REPORT_WORDS: [Entry; 29] = [
     [
         "VERDICT",
         "Verdict",
@@ -64,6 +64,18 @@ pub static REPORT_WORDS: [Entry; 61] = [
         "Switch one stage after the other.",
     ],
     [
+        "ONWARD",
+        "OnwardReport",
+        "The report of an order that leads from where another one was stopped on to the new plan.",
+        "Switch one stage after the other, and then do what stands under AFTER in the report of the first order.",
+    ],
+    [
+        "RETURN",
+        "ReturnReport",
+        "The report of an order that leads from where another one was stopped back to the old plan.",
+        "Switch one stage after the other.",
+    ],
+    [
         "STAGE",
         "Stage",
         "A stage of an order. What is switched in it may be switched in any order.",
@@ -91,7 +103,7 @@ pub static REPORT_WORDS: [Entry; 61] = [
         "LISTS",
         "ListCounts",
         "How many lists there are to work on: those that are NEW, those that are CHANGED, and those that are GONE.",
-        "Count the lines of the report: each list has one.",
+        "Look for their lines: NEW ROUTE, ROUTE or DROP, and GONE ROUTE. An order with VERDICT NO has none for those that are CHANGED.",
     ],
     [
         "CHANGED",
@@ -164,209 +176,5 @@ pub static REPORT_WORDS: [Entry; 61] = [
         "DropBar",
         "Calls that start at the exchange for the code are admitted from now on.",
         "Take the BAR line out of the plan.",
-    ],
-    [
-        "SURVIVE",
-        "OutageReport",
-        "The report of outages. RISKS says how many were tried.",
-        "Look at the totals first: each outage with what it cuts off.",
-    ],
-    [
-        "WORSE",
-        "WorseOff",
-        "By this outage some calls are cut off, or led astray, that were not in the old plan, or cut off where they were led astray. Of a grade: a greater limit, or a smaller spare number.",
-        "The lines below the totals say whom it cuts off: let another group stand in the list at the end of the walk.",
-    ],
-    [
-        "BETTER",
-        "BetterOff",
-        "It is worse in the old plan, and in nothing better there.",
-        "Nothing.",
-    ],
-    [
-        "SAME",
-        "SameInBoth",
-        "The same calls are cut off in both plans, and the same are led astray. Of a grade: both plans have it.",
-        "telexplan survive without --from says which calls.",
-    ],
-    [
-        "RISKS",
-        "Risks",
-        "How many outages were tried, or how many named risks cut off nobody. In a text of risks, its header.",
-        "telexplan survive --risks-only tries the named ones alone.",
-    ],
-    [
-        "RISK",
-        "Risk",
-        "A named risk: its groups fail at once.",
-        "The lines below say whom it cuts off.",
-    ],
-    [
-        "GROUP",
-        "Group",
-        "A circuit group. In a report of outages, this group fails alone.",
-        "The lines below say whom it cuts off.",
-    ],
-    [
-        "EXCHANGE",
-        "Exchange",
-        "An exchange. In a report of outages, this exchange fails alone, with its groups.",
-        "The lines below say whom it cuts off.",
-    ],
-    [
-        "GROUPS",
-        "OtherGroups",
-        "So many groups cut off nobody if they fail alone. In a line UNSERVED, so many groups lead to exchanges that can be served within the limit.",
-        "Nothing: calls go by other groups.",
-    ],
-    [
-        "EXCHANGES",
-        "OtherExchanges",
-        "So many exchanges cut off nobody if they fail alone.",
-        "Nothing: calls go by other exchanges.",
-    ],
-    [
-        "CUT",
-        "CutOff",
-        "No way home is left for calls for the code that start at the exchange. In the totals, how many such lines there are.",
-        "Let one list on the walk have a group that does not fail with the others.",
-    ],
-    [
-        "STRAY",
-        "LedAstray",
-        "A way home is left for calls for the code that start at the exchange, and also one to an exchange where none is left: a call that has gone there is answered NC. In the totals, how many such lines there are.",
-        "Let the list at the end of the walk have another group, or let no list lead there.",
-    ],
-    [
-        "TRACE",
-        "Trace",
-        "How calls for a code go from an exchange, which calls can pass an exchange or a group, or which go another way than in an old plan.",
-        "FIRST is the way while all is free, and LIST the other choices.",
-    ],
-    [
-        "THROUGH",
-        "PassedThrough",
-        "The lines below say from which exchanges calls can come to this exchange or go by this group, and for which codes.",
-        "telexplan trace with such an exchange and code shows on which way.",
-    ],
-    [
-        "CHANGES",
-        "WayChanges",
-        "How many calls go another way than in the old plan, of those that could start there: the lines below say from which exchanges, and for which codes.",
-        "telexplan trace with such an exchange and code shows the whole way.",
-    ],
-    [
-        "GAINS",
-        "PassesNow",
-        "Such calls can come to this exchange, and could not in the old plan.",
-        "Nothing, if they are meant to.",
-    ],
-    [
-        "LOSES",
-        "PassedBefore",
-        "Such calls could come to this exchange in the old plan, and cannot now.",
-        "Nothing, if they are meant not to.",
-    ],
-    [
-        "DOWN",
-        "GroupsDown",
-        "The groups that are down, failed or blocked.",
-        "Nothing: these were asked for by --down.",
-    ],
-    [
-        "BARRED",
-        "BarredStart",
-        "The plan bars calls that start at the exchange for the code.",
-        "The rest of the trace is for calls that come there from another exchange.",
-    ],
-    [
-        "FIRST",
-        "FirstWay",
-        "The way of a call while everything is free.",
-        "The lines LIST have the other choices.",
-    ],
-    [
-        "LIST",
-        "ListPlace",
-        "An exchange, a place in its list from 1, the group there, and the exchange to which it leads.",
-        "Change the ROUTE line of the exchange, if calls are to go another way.",
-    ],
-    [
-        "RANK",
-        "Rank",
-        "A number of an exchange for a code. Each group of each list leads to a smaller one, so no call comes back. In a trace it is the number of steps of the longest way home. In a line UNSERVED, the smallest that the exchange can have.",
-        "telexplan audit --cert writes the ranks of a safe plan.",
-    ],
-    [
-        "HOME",
-        "Home",
-        "The exchange where the code is at home.",
-        "Nothing: there the called line answers.",
-    ],
-    [
-        "FILL",
-        "FillReport",
-        "How many calls for a code an exchange can have at once.",
-        "CALLS says how many, and FULL which groups are used up.",
-    ],
-    [
-        "FULL",
-        "GroupFull",
-        "All circuits of the group are taken by these calls.",
-        "More circuits there may let more calls through.",
-    ],
-    [
-        "LINE",
-        "NoLineLeft",
-        "NO LINE: no line was left to call, or to be called.",
-        "Declare more LINES: the groups have room for more calls.",
-    ],
-    [
-        "CODE",
-        "DestinationCode",
-        "A destination code, with its home, its grade, an exchange from which calls for it go, or how many exchanges cannot be served for it.",
-        "telexplan trace shows how calls for it go.",
-    ],
-    [
-        "MISSING",
-        "GroupsMissing",
-        "From each exchange behind it some groups lead near enough to the home for the limit, and so many more are needed.",
-        "Add groups from there to the home, or to an exchange that can be served with one transit less.",
-    ],
-    [
-        "DISTINCT",
-        "CodesDistinct",
-        "No code begins another.",
-        "Nothing: each call has one code.",
-    ],
-    [
-        "PLAN",
-        "PlanHeader",
-        "The header of a plan.",
-        "PLAN 2 is needed where it has BAR lines.",
-    ],
-    [
-        "LINES",
-        "SubscriberLines",
-        "The lines of a code, from a low to a high national number.",
-        "Calls start at the home of a code that has some.",
-    ],
-    [
-        "BOTHWAY",
-        "BothWay",
-        "Both ends of the group may seize its circuits.",
-        "ONEWAY lets the first end alone seize them.",
-    ],
-    [
-        "ONEWAY",
-        "OneWay",
-        "The first end of the group alone may seize its circuits.",
-        "BOTHWAY lets both.",
-    ],
-    [
-        "CERT",
-        "CertificateHeader",
-        "The header of a certificate.",
-        "telexplan check verifies it.",
     ],
 ];

@@ -21,12 +21,11 @@ pub struct RunRequest {
     pub checked: Option<(String, Limits)>,
 }
 
-/// `run PLAN SCRIPT` where more is asked for: a status that shows whether an event was refused, the
-/// line of each event before its reply, or a summary.
+/// A run where more is asked for: a status that shows whether an event was refused, the line of each
+/// event before its reply, or a summary.
 #[derive(Drop)]
 pub struct TellingRequest {
-    pub plan: String,
-    pub script: String,
+    pub run: RunRequest,
     pub strict: bool,
     pub echo: bool,
     pub summary: bool,
@@ -91,20 +90,19 @@ pub(crate) fn run_of(alloc: Global, matches: &ArgMatches<'_>) -> Result<Command,
     let strict = is_set(matches, "strict");
     let echo = is_set(matches, "echo");
     let summary = is_set(matches, "summary");
-    let more = strict || echo || summary;
-    match checked {
-        None if more => Ok(Command::RunTelling(TellingRequest {
-            plan,
-            script,
+    let run = RunRequest {
+        plan,
+        script,
+        checked,
+    };
+    if strict || echo || summary {
+        Ok(Command::RunTelling(TellingRequest {
+            run,
             strict,
             echo,
             summary,
-        })),
-        Some(_) if more => Err(Misuse::CheckedTelling),
-        checked => Ok(Command::Run(RunRequest {
-            plan,
-            script,
-            checked,
-        })),
+        }))
+    } else {
+        Ok(Command::Run(run))
     }
 }

@@ -5,8 +5,9 @@ ghost use Rattle.tx_commands.specs.Commands.{Asks};
 ghost use Rattle.tx_commands.specs.Grammar.{survive_words};
 ghost use Rattle.tx_commands.specs.inner.Refused.{IsRefused};
 
-use crate::arguments::{RISKS, Syntax};
+use crate::arguments::{DOWN, DOWN_EXCHANGE, RISKS, Syntax};
 use crate::command::Command;
+use crate::down::{Down, down_asked};
 use crate::given::{is_set, text};
 use crate::misuse::Misuse;
 use clap::ArgMatches;
@@ -17,6 +18,7 @@ use std::alloc::{AllocError, Global};
 pub struct SurviveRequest {
     pub plan: String,
     pub risks: Option<(String, bool)>,
+    pub down: Option<Down>,
 }
 
 /// `survive NEW --from OLD`: both plans, one beside the other.
@@ -25,6 +27,7 @@ pub struct CompareRequest {
     pub old: String,
     pub new: String,
     pub risks: Option<(String, bool)>,
+    pub down: Option<Down>,
 }
 
 const SURVIVE_HELP: &str =
@@ -51,9 +54,11 @@ pub(crate) fn survive_grammar<'a>(alloc: Global) -> Result<clap::Command<'a>, Al
     .option(
         "from",
         "OLD",
-        "The plan that is in force: say whether anybody is worse
-off by the plan; - is standard input",
+        "The plan that is in force: say whether anybody is
+worse off by the plan; - is standard input",
     )
+    .option("down", "GROUP,..", DOWN)
+    .option("down-exchange", "X", DOWN_EXCHANGE)
     .command
 }
 
@@ -73,12 +78,14 @@ pub(crate) fn survive_of(alloc: Global, matches: &ArgMatches<'_>) -> Result<Comm
         None if only => return Err(Misuse::RisksOnly),
         None => None,
     };
+    let down = down_asked(alloc, matches, false)?;
     match old {
         Some(old) => Ok(Command::Compare(CompareRequest {
             old,
             new: plan,
             risks,
+            down,
         })),
-        None => Ok(Command::Survive(SurviveRequest { plan, risks })),
+        None => Ok(Command::Survive(SurviveRequest { plan, risks, down })),
     }
 }

@@ -1,9 +1,9 @@
 // Codes of faults of texts.
 use crate::code_table::Entry;
 
-/// The codes of faults of any text (X), a plan (P), a certificate (C), a script (S) and a text of
-/// risks (Q).
-pub static TEXT_FAULTS: [Entry; 51] = [
+/// The codes of faults of any text (X), a plan (P), a certificate (C), a script (S), a text of risks
+/// (Q), and a text of what is switched already (D).
+pub static TEXT_FAULTS: [Entry; 59] = [
     [
         "X1",
         "LineTooLong",
@@ -262,7 +262,7 @@ pub static TEXT_FAULTS: [Entry; 51] = [
         "Q5",
         "UnknownName",
         "The plan has no such group.",
-        "Correct the word, or see whether the risks are of another plan.",
+        "Correct the word, or see whether the risks are of another plan. Under the header RISKS 2 the groups that the plan has are tried.",
     ],
     [
         "Q6",
@@ -273,7 +273,7 @@ pub static TEXT_FAULTS: [Entry; 51] = [
     [
         "Q7",
         "NoHeader",
-        "The first line with words is not RISKS 1.",
+        "The first line with words is not RISKS 1 or RISKS 2.",
         "Begin the text with it, or see whether this file is a text of risks.",
     ],
     [
@@ -291,6 +291,49 @@ pub static TEXT_FAULTS: [Entry; 51] = [
     ],
     [
         "Q11",
+        "ReadFault",
+        "The source of the text failed.",
+        "See whether the file can be read. The program reports this as telexplan: read fault.",
+    ],
+    [
+        "D1",
+        "WrongCount",
+        "The line is not an exchange and a code.",
+        "Write one exchange and one code on a line.",
+    ],
+    [
+        "D2",
+        "UnknownName",
+        "Neither plan has such an exchange, or such a code.",
+        "Correct the word.",
+    ],
+    [
+        "D3",
+        "NotSwitched",
+        "No stage up to the one that is asked for switches the list or the bar of the exchange for the code.",
+        "Drop the line, or see whether stage and limits are those of the order that was begun.",
+    ],
+    [
+        "D4",
+        "NoHeader",
+        "The first line with words is not DONE 1.",
+        "Begin the text with it, or see whether this file says what is switched.",
+    ],
+    [
+        "D5",
+        "NoEnd",
+        "The text ends without END, or in the middle of a line.",
+        "See whether the file was cut off.",
+    ],
+    ["D6", "AfterEnd", "Words come after END.", "Drop them."],
+    [
+        "D7",
+        "NoMemory",
+        "No memory was left.",
+        "Give the program more memory. It reports this as telexplan: no memory.",
+    ],
+    [
+        "D8",
         "ReadFault",
         "The source of the text failed.",
         "See whether the file can be read. The program reports this as telexplan: read fault.",

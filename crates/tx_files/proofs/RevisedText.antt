@@ -1,7 +1,5 @@
 -- The text of a plan that was made.
-use Rattle.std.proofs.Common.{ℕ, List, refl, inl, inr}
-use Rattle.tx_plan.specs.Plan.{Plan}
-use Rattle.tx_plan.specs.Rules.{IsPlan}
+use Rattle.tx_files.proofs.Common.{ℕ, List, refl, inl, inr, Plan, IsPlan}
 use Rattle.tx_plantext.specs.PlanWritten.{plan_written}
 use Rattle.tx_plantext.proofs.Written.{plan_back}
 use Rattle.tx_plantext.specs.Revised.{IsRevised}

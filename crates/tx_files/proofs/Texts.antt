@@ -1,18 +1,13 @@
 -- What was read of the texts of a request.
-use Rattle.std.proofs.Common.{◌≡◌, Bool, true, false, List, [], Option, None, Some, Ok, Err, refl, sym}
+use Rattle.tx_files.proofs.Common.{◌≡◌, Bool, true, false, List, [], Option, None, Some, Ok, Err, refl, sym, Input, Plan, IsPlan, NamedRisk, AreRisksFor, CommandFault, PlanText}
 use Rattle.std.proofs.lemmas.Bool.{false≢true}
 use Rattle.std.specs.Prelude.{IfSome}
 use Rattle.tx_text.specs.declared.whole_text.WholeTextFault.{WholeTextFault}
 use Rattle.tx_text.specs.declared.whole_text.WholeTextFault.TheVariants.{Read as TextRead, NoMemory as TextNoMemory}
-use Rattle.tx_text.specs.Ends.{Input}
-use Rattle.tx_plan.specs.Plan.{Plan}
-use Rattle.tx_risk.specs.NamedRisks.{NamedRisk, AreRisksFor}
 use Rattle.tx_risk.proofs.RiskLines.{no_risks}
-use Rattle.tx_files.specs.declared.fault.CommandFault.{CommandFault}
-use Rattle.tx_files.specs.declared.two_plans.PlanText.{PlanText}
 use Rattle.tx_files.specs.PageReading.{ReadsOldIf}
 use Rattle.tx_files.specs.Reading.{RisksRefused, ReadsRisksIf}
-use Rattle.tx_files.specs.TwoPlans.{IsSaid, GivesNoPlan, NotWhole, SaysWhole}
+use Rattle.tx_files.specs.TwoPlans.{GivesNoPlan, NotWhole, SaysWhole}
 use Rattle.tx_files.specs.Faults.{in_plan, text_stop}
 use Rattle.tx_files.specs.declared.two_plans.Which.TheVariants.{Old}
 use Rattle.tx_risk.specs.RiskText.{ReadsRisks}
@@ -67,10 +62,10 @@ module _ (A : Type 0) (text : Input) where
   old_unasked true e h = absurd (false≢true (sym e))
   old_unasked false e h = (refl, h)
 
-  -- either way its text says it
+  -- either way it keeps the rules
   pub old_said : (changed : Bool) (t : Option (PlanText A)) → ReadsOldIf changed text (Ok t)
-      → IfSome t IsSaid
-  old_said true (Some t) h = h.said
+      → IfSome t (λ o. IsPlan o.plan)
+  old_said true (Some t) h = h.said.rules
   old_said true None h = tt
   old_said false (Some t) h = let bad : ⊥ = let e = h.0 in cc in absurd bad
   old_said false None h = tt

@@ -1,6 +1,7 @@
 -- The line that says why a command stopped.
 use Rattle.std.specs.Prelude.{ℕ, List, ◌++◌, Option, None, Some, codes, decimal}
 use Rattle.tx_plantext.specs.PlanFaults.{fault_row as plan_row}
+use Rattle.tx_order.specs.DoneText.{fault_row as done_row}
 use Rattle.tx_risk.specs.RiskFaults.{fault_row as risk_row}
 use Rattle.tx_join.specs.declared.contradiction.Contradiction.{Contradiction as ContradictionOf}
 use Rattle.tx_join.specs.Contradictions.{kind_word}
@@ -8,7 +9,7 @@ use Rattle.tx_jobs.specs.JobFaults.{fault_line, text_fault_line}
 use Rattle.tx_files.specs.declared.missing.Missing.{Missing}
 use Rattle.tx_files.specs.Missing.{named_word}
 use Rattle.tx_files.specs.declared.fault.CommandFault.{CommandFault}
-use Rattle.tx_files.specs.declared.fault.CommandFault.TheVariants.{Job, OldPlan, NewPlan, Contradiction, TooManyTogether, Risks, NoSuchStage, NoSuchName, NotInOldPlan}
+use Rattle.tx_files.specs.declared.fault.CommandFault.TheVariants.{Job, OldPlan, NewPlan, Contradiction, TooManyTogether, Risks, Done, NoSuchStage, NoSuchName, NotInOldPlan}
 
 -- the homes of a code, and how it can move
 abbrev pub homes_text : Option (List ℕ × List ℕ) → List ℕ
@@ -52,6 +53,7 @@ command_line (Contradiction c) = contradiction_line c
 command_line TooManyTogether =
     codes "telexplan: both plans together have too many exchanges, codes or groups\n"
 command_line (Risks f) = text_fault_line (codes "risks") f.line (risk_row f.kind)
+command_line (Done f) = text_fault_line (codes "done") f.line (done_row f.kind)
 command_line (NoSuchStage stages) = stage_count_line stages
 command_line (NoSuchName m) = missing_line m
 command_line NotInOldPlan = codes "telexplan: no such exchange or code in the old plan\n"

@@ -5,6 +5,8 @@ use Rattle.tx_text.specs.declared.frame.FrameFault.TheVariants.{Read as LineRead
 use Rattle.tx_text.specs.declared.frame.FaultKind.{FaultKind}
 use Rattle.tx_text.specs.declared.frame.FaultKind.TheVariants.{Frame, Word}
 use Rattle.tx_plantext.specs.declared.fault.PlanWord.{PlanWord}
+use Rattle.tx_order.specs.declared.done.DoneWord.{DoneWord}
+use Rattle.tx_order.specs.declared.done.DoneWord.TheVariants.{NoMemory as DoneNoMemory}
 use Rattle.tx_risk.specs.declared.fault.RiskWord.{RiskWord}
 use Rattle.tx_risk.specs.declared.fault.RiskWord.TheVariants.{NoMemory as RiskNoMemory}
 use Rattle.tx_text.specs.declared.whole_text.WholeTextFault.{WholeTextFault}
@@ -15,7 +17,7 @@ use Rattle.tx_jobs.specs.JobFaults.{plan_fault, status_of}
 use Rattle.tx_files.specs.declared.two_plans.Which.{Which}
 use Rattle.tx_files.specs.declared.two_plans.Which.TheVariants.{This, Old, New}
 use Rattle.tx_files.specs.declared.fault.CommandFault.{CommandFault}
-use Rattle.tx_files.specs.declared.fault.CommandFault.TheVariants.{Job, OldPlan, NewPlan, Contradiction, TooManyTogether, Risks}
+use Rattle.tx_files.specs.declared.fault.CommandFault.TheVariants.{Job, OldPlan, NewPlan, Contradiction, TooManyTogether, Risks, Done}
 
 -- the exit status: that of a job; 2 for a refused text and for plans that have no joined network;
 -- and 64 for what the plan does not have of what is asked for by names, and for a stage that the
@@ -27,6 +29,7 @@ fault_status (NewPlan f) = 2
 fault_status (Contradiction c) = 2
 fault_status TooManyTogether = 2
 fault_status (Risks f) = 2
+fault_status (Done f) = 2
 fault_status other = 64
 
 -- memory ran out
@@ -51,6 +54,17 @@ risks_stop_by f k = Risks f
 -- a fault of the text of risks
 abbrev pub risks_stop : FaultAt RiskWord → CommandFault
 risks_stop f = risks_stop_by f f.kind
+
+-- a fault of the text of what is done, by its kind
+abbrev pub done_stop_by : FaultAt DoneWord → FaultKind DoneWord → CommandFault
+done_stop_by f (Frame LineRead) = Job Read
+done_stop_by f (Frame LineNoMemory) = Job NoMemory
+done_stop_by f (Word DoneNoMemory) = Job NoMemory
+done_stop_by f k = Done f
+
+-- a fault of the text of what is done
+abbrev pub done_stop : FaultAt DoneWord → CommandFault
+done_stop f = done_stop_by f f.kind
 
 -- why a text was not read to its end
 abbrev pub text_stop : WholeTextFault → CommandFault

@@ -1,5 +1,7 @@
 pub mod Faults
 pub mod Missing
+pub mod Names
+pub mod Asked
 pub mod FaultLines
 pub mod Reading
 pub mod Writables
@@ -7,3 +9,5 @@ pub mod Ending
 pub mod TwoPlans
 pub mod Made
 pub mod PageReading
+pub mod Left
+pub mod Stopped

@@ -1,6 +1,7 @@
 -- What a page is made of.
 use Rattle.std.specs.Prelude.{◌≡◌, ◌⊎◌, Bool, true, false, Option, None, Some, Result, Ok, Err, IfSome}
 use Rattle.tx_text.specs.Ends.{Input}
+use Rattle.tx_plan.specs.Rules.{IsPlan}
 use Rattle.tx_risk.specs.NamedRisks.{AreRisksFor}
 use Rattle.tx_files.specs.declared.page_reading.PageTexts.{PageTexts}
 use Rattle.tx_files.specs.declared.two_plans.PlanText.{PlanText}
@@ -8,14 +9,14 @@ use Rattle.tx_files.specs.declared.two_plans.Which.TheVariants.{This, Old}
 use Rattle.tx_files.specs.declared.fault.CommandFault.{CommandFault}
 use Rattle.tx_files.specs.Faults.{in_plan}
 use Rattle.tx_files.specs.Reading.{ReadsRisksIf}
-use Rattle.tx_files.specs.TwoPlans.{IsSaid, SaysWhole, GivesNoPlan}
+use Rattle.tx_files.specs.TwoPlans.{SaysWhole, GivesNoPlan}
 
 module _ {A : Type 0} where
-  -- the texts say the plans, and the risks are of the plan
+  -- the plan and an old one keep the rules, and the risks are of the plan
   pub record AreForPage (t : PageTexts A) : Type 0 where
-    pub plan : IsSaid t.plan
+    pub plan : IsPlan t.plan.plan
     pub risks : AreRisksFor t.plan.plan t.risks
-    pub old : IfSome t.old IsSaid
+    pub old : IfSome t.old (λ o. IsPlan o.plan)
 
   -- the old plan, if it is asked for
   abbrev pub ReadsOldIf : (changed : Bool) → Input → Result (Option (PlanText A)) CommandFault

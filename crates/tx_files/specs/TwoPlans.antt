@@ -79,10 +79,10 @@ module _ {A : Type 0} where
     pub network : AreOverBoth p q j.old j.new
     pub lists : HaveTheirLists p q j.old j.new
 
-  -- both texts say their plans, which are joined
+  -- two plans are joined
   pub record AreJoined (t : TwoPlans A) : Type 0 where
-    pub old : IsSaid t.old
-    pub new : IsSaid t.new
+    pub old : IsPlan t.old.plan
+    pub new : IsPlan t.new.plan
     pub joined : IsJoin t.old.plan t.new.plan t.joined
 
   -- why two plans have no joined network, by the lines of their texts that say so
@@ -133,7 +133,7 @@ LackRisks A named old new text fault = (t : TwoPlans A) × ReadsPlans old new (O
     × ReadsRisksIf named t.joined.new text (Err fault)
 
 module _ {A : Type 0} where
-  -- both texts say their plans, and the risks are of their joined network
+  -- two plans are joined, and the risks are of their joined network
   pub record HavePlansRisks (t : PlansRisks A) : Type 0 where
     pub plans : AreJoined t.plans
     pub risks : AreRisksFor t.plans.joined.new t.risks

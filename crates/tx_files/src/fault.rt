@@ -1,6 +1,6 @@
 // Why a command stopped.
 ghost use Rattle.std.specs.Prelude.{◌≡◌, ◌⊎◌};
-ghost use Rattle.tx_files.specs.Faults.{fault_status, plan_stop, risks_stop, text_stop, memory_stop, write_stop, in_plan};
+ghost use Rattle.tx_files.specs.Faults.{fault_status, plan_stop, risks_stop, done_stop, text_stop, memory_stop, write_stop, in_plan};
 ghost use Rattle.tx_files.specs.declared.fault.CommandFault.TheVariants.{Job as OfJob, NoSuchName as NoName};
 ghost use Rattle.tx_files.specs.Missing.{missing};
 
@@ -9,6 +9,7 @@ use crate::two_plans::Which;
 use std::alloc::Allocator;
 use tx_jobs::JobFault;
 use tx_join::Contradiction;
+use tx_order::{DoneFault, DoneWord};
 use tx_plan::Plan;
 use tx_plantext::PlanFault;
 use tx_risk::{RiskFault, RiskWord};
@@ -30,6 +31,8 @@ pub enum CommandFault {
     TooManyTogether,
     /// The text of risks is refused.
     Risks(RiskFault),
+    /// The text of what is done is refused.
+    Done(DoneFault),
     /// The order does not have the stage that was asked for, but so many.
     NoSuchStage(usize),
     /// The plan does not have a name that was asked for.
@@ -85,6 +88,20 @@ impl From<RiskFault> for CommandFault {
     }
 }
 
+/// A failure to read and a lack of memory are reported as such.
+impl From<DoneFault> for CommandFault {
+    ghost from_gives = { λ done fault. fault ≡ done_stop done };
+
+    fn from(fault: DoneFault) -> CommandFault {
+        match fault.kind {
+            FaultKind::Frame(FrameFault::Read) => CommandFault::Job(JobFault::Read),
+            FaultKind::Frame(FrameFault::NoMemory) | FaultKind::Word(DoneWord::NoMemory) =>
+                CommandFault::Job(JobFault::NoMemory),
+            _ => CommandFault::Done(fault),
+        }
+    }
+}
+
 impl From<WholeTextFault> for CommandFault {
     ghost from_gives = { λ text fault. fault ≡ text_stop text };
 
@@ -109,7 +126,8 @@ impl CommandFault {
             | CommandFault::NewPlan(_)
             | CommandFault::Contradiction(_)
             | CommandFault::TooManyTogether
-            | CommandFault::Risks(_) => 2,
+            | CommandFault::Risks(_)
+            | CommandFault::Done(_) => 2,
             _ => 64,
         }
     }

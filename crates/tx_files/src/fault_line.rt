@@ -22,6 +22,10 @@ pub fn write_command_fault<W: Sink>(fault: &CommandFault, sink: &mut W) -> Resul
             let row = tx_risk::code_and_name(fault.kind);
             write_text_fault(b"risks", fault.line, row, sink)
         }
+        CommandFault::Done(fault) => {
+            let row = tx_order::code_and_name(fault.kind);
+            write_text_fault(b"done", fault.line, row, sink)
+        }
         CommandFault::Contradiction(contradiction) => write_contradiction(contradiction, sink),
         CommandFault::TooManyTogether => {
             write_bytes(

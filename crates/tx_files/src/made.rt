@@ -25,7 +25,6 @@ pub enum Shown<A: Allocator = Global> {
 impl<A: Allocator> Shown<A> {
     ghost use Rattle.std.specs.Prelude.{◌≡◌};
     ghost use Rattle.std.specs.Option.{option_map, IfSome};
-    ghost use Rattle.tx_files.specs.Writables.{AreWritable};
     ghost use Rattle.tx_files.specs.Made.{shown_plan, shown_events};
 
     /// A mixture that is shown, with its events as a script.

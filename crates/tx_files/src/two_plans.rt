@@ -3,6 +3,7 @@
 ghost use Rattle.std.specs.Prelude.{◌≡◌, IfOk, IfErr};
 ghost use Rattle.tx_text.specs.Calls.{CallsAtMost, source_calls};
 ghost use Rattle.tx_text.specs.Ends.{input};
+ghost use Rattle.tx_files.specs.declared.two_plans.Which.TheVariants.{This};
 ghost use Rattle.tx_files.specs.TwoPlans.{IsSaid, ReadsWhole, join_stop, IsNoJoinOf, IsJoin, AreJoined, ReadsPlans, HavePlansRisks, ReadsPlansWithRisks, AreSaid, ReadsWithOld};
 
 use crate::fault::CommandFault;
@@ -110,8 +111,20 @@ pub fn read_plans_with_risks<A: Allocator + Copy, P: Source, Q: Source, R: Sourc
     Ok(PlansRisks { plans, risks })
 }
 
+/// Reads the plan that a command is about, to the end of its text.
+pub fn read_this<A: Allocator + Copy, S: Source>(
+    alloc: A,
+    source: &mut S,
+) -> Result<PlanText<A>, CommandFault>
+    ensures text { ReadsWhole This (input S.rest S.failed S.called source.old source.new) result }
+    ensures known { IfOk result IsSaid }
+    ensures calls { CallsAtMost S.called source_calls source.old source.new }
+{
+    read_whole(alloc, Which::This, source)
+}
+
 /// Reads a plan, to the end of its text.
-pub fn read_whole<A: Allocator + Copy, S: Source>(
+pub(crate) fn read_whole<A: Allocator + Copy, S: Source>(
     alloc: A,
     which: Which,
     source: &mut S,

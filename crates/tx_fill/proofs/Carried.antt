@@ -74,16 +74,7 @@ module _ (p q : Plan) (k : Line × Line) (s t : State) (r : Reply) (figures : Li
 -- what is no number of a call
 pub not_keyed : (p : Plan) (t : State) (r : Reply) → ((n : ℕ) → r ≡ Keyed n → ⊥)
     → after_key p r t ≡ t
-not_keyed p t (Keyed n) h = absurd (h n refl)
-not_keyed p t (Seized x) h = refl
-not_keyed p t (At y) h = refl
-not_keyed p t (Connected l) h = refl
-not_keyed p t (Answered service) h = refl
-not_keyed p t (HeadOn a b c d) h = refl
-not_keyed p t Cleared h = refl
-not_keyed p t Done h = refl
-not_keyed p t (Lost n) h = refl
-not_keyed p t (Refused refusal) h = refl
+not_keyed p t r h = grind arith
 
 -- ONE CALL AFTER ANOTHER
 none_dropped : (xs : List (Line × Line)) (j : ℕ) → slice_get xs j ≡ None → drop j xs ≡ []

@@ -68,6 +68,7 @@ fn write_answer<'a, W: Sink>(answer: &'a [u8], name: &'a [u8], sink: &mut W)
     put_parts(&[b"ANSWERED ", answer, b" AT ", name, b"\n"], sink);
 }
 
+#[tactic(auto, using(tx_text::proofs::Putting::puts_none, tx_text::proofs::Putting::puts_more, tx_text::proofs::Putting::puts_all))]
 fn write_all_full<A: Allocator, W: Sink>(plan: &Plan<A>, full: &[GroupId], sink: &mut W)
     ensures { Puts W.taken W.failed sink.old sink.new
         (flat_map (full_line plan.now) full.now) }

@@ -1,5 +1,5 @@
 //! Pages of HTML, on which no text of a plan is markup.
-#![tactic(auto)]
+#![tactic(auto, using(crate::proofs::Showing::own_sets, crate::proofs::Showing::text_sets, crate::proofs::Showing::sets_none, crate::proofs::Showing::list_done))]
 
 mod amount;
 mod escaped;

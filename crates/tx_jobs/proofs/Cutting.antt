@@ -1,12 +1,12 @@
 -- A plan ends where its bytes are seen to end.
-use Rattle.std.proofs.Common.{◌≡◌, ℕ, suc, ◌+◌, ◌==◌, Bool, true, false, cond, List, [], ◌∷◌, ◌++◌, length, refl, sym, ap, subst, ◌∙◌, arith, append_assoc, append-nil, length-append, eqb-true}
-use Rattle.tx_jobs.proofs.Common.{if◌then◌else◌, false≢true, is_end, Seen}
+use Rattle.std.proofs.Common.{◌≡◌, ℕ, suc, ◌+◌, Bool, true, false, cond, List, [], ◌∷◌, ◌++◌, length, refl, sym, ap, subst, ◌∙◌, arith, append_assoc, append-nil, length-append, eqb-true}
+use Rattle.tx_jobs.proofs.Common.{if◌then◌else◌, is_end, Seen}
 use Rattle.std.specs.List.{slice_split, onto_first}
 use Rattle.std.proofs.lemmas.List.Elements.{All-nil, All-push}
 use Rattle.tx_text.specs.Text.{Line, is_lf, lines_of_parts, lines_from}
-use Rattle.tx_text.specs.Words.{words_of, is_blank, is_hash}
+use Rattle.tx_text.specs.Words.{words_of}
 use Rattle.tx_text.proofs.TextLines.{HasNoLf, ended_line, lines_at_lf, lines_nil, lines_last}
-use Rattle.tx_jobs.specs.declared.seen.Seen.TheVariants.{Blanks, E, En, End, Comment, Cr, Other, Over}
+use Rattle.tx_jobs.specs.declared.seen.Seen.TheVariants.{Blanks, Over}
 use Rattle.tx_jobs.specs.Parts.{plan_end, cut_of}
 use Rattle.tx_jobs.specs.inner.Seen.{in_line, at_lf, after, is_over, is_end_seen, line_seen, end_from}
 use Rattle.tx_jobs.proofs.EndLines.{end_is_seen}
@@ -50,19 +50,8 @@ starts n s b bs =
 
 -- WHAT IS SEEN
 
-pick : (x : Bool) (s t : Seen) → is_over s ≡ false → is_over t ≡ false → is_over (if x then s else t) ≡ false
-pick true s t h k = h
-pick false s t h k = k
-
 pub in_going : (seen : Seen) (b : ℕ) → is_over seen ≡ false → is_over (in_line seen b) ≡ false
-in_going Blanks b h = pick (is_blank b) _ _ refl (pick (b == 69) _ _ refl refl)
-in_going E b h = pick (b == 78) _ _ refl refl
-in_going En b h = pick (b == 68) _ _ refl refl
-in_going End b h = pick (is_blank b) _ _ refl (pick (is_hash b) _ _ refl (pick (b == 13) _ _ refl refl))
-in_going Comment b h = refl
-in_going Cr b h = refl
-in_going Other b h = refl
-in_going Over b h = h
+in_going seen b h = grind arith
 
 pub line_going : (seen : Seen) (raw : List ℕ) → is_over seen ≡ false → is_over (line_seen seen raw) ≡ false
 unfolding line_seen
@@ -79,14 +68,7 @@ line_on seen [] b = refl
 line_on seen (c ∷ raw) b = line_on (in_line seen c) raw b
 
 lf_seen : (seen : Seen) → is_over seen ≡ false → at_lf seen ≡ (if is_end_seen seen then Over else Blanks)
-lf_seen Blanks h = refl
-lf_seen E h = refl
-lf_seen En h = refl
-lf_seen End h = refl
-lf_seen Comment h = refl
-lf_seen Cr h = refl
-lf_seen Other h = refl
-lf_seen Over h = absurd (false≢true (sym h))
+lf_seen seen h = grind arith
 
 pub end_on : (seen : Seen) (b : ℕ) (bs : List ℕ) → is_over seen ≡ false → end_from seen (b ∷ bs) ≡ suc (end_from (after seen b) bs)
 unfolding end_from

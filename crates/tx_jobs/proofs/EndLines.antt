@@ -52,32 +52,25 @@ hash_first b u h = rw h refl
 -- END, AND WHAT IS NOT
 
 end_alone : (ws : List (List ℕ)) → is_end ((69 ∷ 78 ∷ 68 ∷ []) ∷ ws) ≡ wordless ws
-end_alone [] = refl
-end_alone (v ∷ vs) = refl
+end_alone ws = grind arith
 
 too_long : (b : ℕ) (w : List ℕ) (ws : List (List ℕ)) → is_end ((69 ∷ 78 ∷ 68 ∷ b ∷ w) ∷ ws) ≡ false
-too_long b w [] = refl
-too_long b w (v ∷ vs) = refl
+too_long b w ws = grind arith
 
 one_letter : (ws : List (List ℕ)) → is_end ((69 ∷ []) ∷ ws) ≡ false
-one_letter [] = refl
-one_letter (v ∷ vs) = refl
+one_letter ws = grind arith
 
 two_letters : (ws : List (List ℕ)) → is_end ((69 ∷ 78 ∷ []) ∷ ws) ≡ false
-two_letters [] = refl
-two_letters (v ∷ vs) = refl
+two_letters ws = grind arith
 
 other_first : (b : ℕ) (w : List ℕ) (ws : List (List ℕ)) → (b == 69) ≡ false → is_end ((b ∷ w) ∷ ws) ≡ false
-other_first b w [] e = rw e refl
-other_first b w (v ∷ vs) e = refl
+other_first b w ws e = grind arith
 
 other_second : (b : ℕ) (w : List ℕ) (ws : List (List ℕ)) → (b == 78) ≡ false → is_end ((69 ∷ b ∷ w) ∷ ws) ≡ false
-other_second b w [] e = rw e refl
-other_second b w (v ∷ vs) e = refl
+other_second b w ws e = grind arith
 
 other_third : (b : ℕ) (w : List ℕ) (ws : List (List ℕ)) → (b == 68) ≡ false → is_end ((69 ∷ 78 ∷ b ∷ w) ∷ ws) ≡ false
-other_third b w [] e = rw e refl
-other_third b w (v ∷ vs) e = refl
+other_third b w ws e = grind arith
 
 -- END, and then these bytes: it is the one word where they have none
 end_then : (b : ℕ) (u : List ℕ) (w : Bool) → is_word_byte b ≡ w → is_end (words_of (69 ∷ 78 ∷ 68 ∷ b ∷ u)) ≡ wordless (words_of (b ∷ u))
@@ -126,8 +119,7 @@ unfolding without_cr
 no_cr b e = rw e refl
 
 cr_by : (b : ℕ) (line : List ℕ) (n : ℕ) (x : Bool) → (if x then take (suc n) (b ∷ line) else b ∷ line) ≡ b ∷ (if x then take n line else line)
-cr_by b line n true = refl
-cr_by b line n false = refl
+cr_by b line n x = grind arith
 
 cr_behind : (b c : ℕ) (t : List ℕ) → without_cr (b ∷ c ∷ t) ≡ b ∷ without_cr (c ∷ t)
 unfolding without_cr

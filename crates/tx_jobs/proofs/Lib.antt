@@ -1,7 +1,6 @@
 mod RefusedTexts
 mod Piping
 mod Breaking
-mod CheckedRun
 mod Simulating
 mod ToldRuns
 mod EndLines

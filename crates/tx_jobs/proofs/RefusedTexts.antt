@@ -1,11 +1,7 @@
 -- Refused texts and the sink's mark.
-use Rattle.tx_jobs.proofs.Common.{◌≡◌, ◌∙◌, Bool, Result, Err, refl, sym, ap, FaultAt, FaultKind, Frame, Word, exits_with, PlanWord, RunFault, JobFault, audit_fault}
+use Rattle.tx_jobs.proofs.Common.{arith, ◌≡◌, ◌∙◌, Bool, Result, Err, refl, sym, ap, FaultAt, FaultKind, exits_with, PlanWord, RunFault, JobFault, audit_fault}
 use Rattle.std.specs.Result.{IsErrAnd}
-use Rattle.tx_text.specs.declared.frame.FrameFault.TheVariants.{LineTooLong, BadByte, NoMemory as TextNoMemory, Read as LineRead, NoHeader, NoEnd, AfterEnd}
-use Rattle.tx_plan.specs.declared.refusal.PlanRefusal.TheVariants.{WrongCount, BadName, BadCode, BadNumber, Duplicate, Unknown, RangeOrder, Overlap, SameEnds, NotOutgoing, RepeatedGroup, RouteAtHome, TooMany, BarAtHome, NoMemory as PlanNoMemory}
-use Rattle.tx_plantext.specs.declared.fault.PlanWord.TheVariants.{UnknownWord, Refused}
 use Rattle.tx_cert.specs.declared.fault.CertWord.{CertWord}
-use Rattle.tx_cert.specs.declared.fault.CertWord.TheVariants.{UnknownWord as CertUnknownWord, WrongCount as CertWrongCount, UnknownName, BadNumber as CertBadNumber, Duplicate as CertDuplicate, NoMemory as CertNoMemory}
 use Rattle.tx_script.specs.declared.script_word.ScriptWord.{ScriptWord}
 use Rattle.tx_script.specs.declared.run_cause.RunCause.{RunCause}
 use Rattle.tx_script.specs.declared.run_cause.RunCause.TheVariants.{Read as RunRead, Write as RunWrite, Script as RunScript, NoMemory as RunNoMemory}
@@ -16,31 +12,7 @@ use Rattle.tx_audit.specs.Audits.{mark_by as audit_mark_by}
 use Rattle.tx_jobs.specs.JobFaults.{plan_fault, plan_fault_by, cert_fault, cert_fault_by, script_fault_by, cause_fault, run_fault, mark_by, mark_after}
 
 plan_by : (old : Bool) (f : FaultAt PlanWord) (k : FaultKind PlanWord) → mark_by old (plan_fault_by f k) ≡ old
-plan_by old f (Frame LineRead) = refl
-plan_by old f (Frame LineTooLong) = refl
-plan_by old f (Frame BadByte) = refl
-plan_by old f (Frame TextNoMemory) = refl
-plan_by old f (Frame NoHeader) = refl
-plan_by old f (Frame NoEnd) = refl
-plan_by old f (Frame AfterEnd) = refl
-plan_by old f (Word UnknownWord) = refl
-plan_by old f (Word (Refused r)) = elim r as (λ r. mark_by old (plan_fault_by f (Word (Refused r))) ≡ old) [
-  | WrongCount ↦ refl
-  | BadName ↦ refl
-  | BadCode ↦ refl
-  | BadNumber ↦ refl
-  | Duplicate ↦ refl
-  | Unknown ↦ refl
-  | RangeOrder ↦ refl
-  | Overlap ↦ refl
-  | SameEnds ↦ refl
-  | NotOutgoing ↦ refl
-  | RepeatedGroup ↦ refl
-  | RouteAtHome ↦ refl
-  | TooMany ↦ refl
-  | BarAtHome ↦ refl
-  | PlanNoMemory ↦ refl
-]
+plan_by old f k = grind arith
 
 -- a refused plan leaves the mark
 pub plan_mark : (old : Bool) (f : FaultAt PlanWord) → old ≡ mark_by old (plan_fault f)
@@ -57,33 +29,14 @@ refused_mark old r f is =
     plan_mark old f ∙ sym (ap (mark_after old) (refused r f is))
 
 cert_by : (old : Bool) (f : FaultAt CertWord) (k : FaultKind CertWord) → mark_by old (cert_fault_by f k) ≡ old
-cert_by old f (Frame LineRead) = refl
-cert_by old f (Frame LineTooLong) = refl
-cert_by old f (Frame BadByte) = refl
-cert_by old f (Frame TextNoMemory) = refl
-cert_by old f (Frame NoHeader) = refl
-cert_by old f (Frame NoEnd) = refl
-cert_by old f (Frame AfterEnd) = refl
-cert_by old f (Word CertUnknownWord) = refl
-cert_by old f (Word CertWrongCount) = refl
-cert_by old f (Word UnknownName) = refl
-cert_by old f (Word CertBadNumber) = refl
-cert_by old f (Word CertDuplicate) = refl
-cert_by old f (Word CertNoMemory) = refl
+cert_by old f k = grind arith
 
 -- and so does a refused certificate
 pub cert_mark : (old : Bool) (f : FaultAt CertWord) → old ≡ mark_by old (cert_fault f)
 cert_mark old f = sym (cert_by old f f.kind)
 
 script_by : (old : Bool) (f : FaultAt ScriptWord) (k : FaultKind ScriptWord) → mark_by old (script_fault_by f k) ≡ old
-script_by old f (Frame LineRead) = refl
-script_by old f (Frame LineTooLong) = refl
-script_by old f (Frame BadByte) = refl
-script_by old f (Frame TextNoMemory) = refl
-script_by old f (Frame NoHeader) = refl
-script_by old f (Frame NoEnd) = refl
-script_by old f (Frame AfterEnd) = refl
-script_by old f (Word w) = refl
+script_by old f k = grind arith
 
 run_marked : (old : Bool) (c : RunCause) → mark_by old (cause_fault c) ≡ run_mark_by old c
 run_marked old RunRead = refl

@@ -1,31 +1,27 @@
 -- What `run PLAN SCRIPT --cert CERT` answers.
-use Rattle.std.specs.Prelude.{◌≡◌, ◌⊎◌, ℕ, Result, Ok, Err}
+use Rattle.std.specs.Prelude.{◌≡◌, ◌⊎◌, ℕ, Option, None, Some, Result, Ok, Err}
 use Rattle.std.specs.Io.KnownBytes.{append_known}
-use Rattle.tx_text.specs.declared.sink.WriteFault.{WriteFault}
 use Rattle.tx_text.specs.Ends.{StopsIn, Input, Output}
 use Rattle.tx_plan.specs.Plan.{Plan}
 use Rattle.tx_cert.specs.Certificate.{Certificate}
 use Rattle.tx_check.specs.declared.fault.CheckFault.{CheckFault}
 use Rattle.tx_check.specs.declared.verdict.Verdict.TheVariants.{No}
 use Rattle.tx_check.specs.Verdicts.{verdict_written}
-use Rattle.tx_script.specs.declared.run_fault.RunFault.{RunFault}
+use Rattle.tx_script.specs.declared.summary.Summary.{Summary}
+use Rattle.tx_script.specs.declared.teller.Telling.{Telling}
 use Rattle.tx_audit.specs.declared.checked.Checked.{Checked}
 use Rattle.tx_audit.specs.declared.checked.Checked.TheVariants.{Ran, Denied}
-use Rattle.tx_audit.specs.Simulated.{RanFromOpening, HadNoRoom}
 use Rattle.tx_audit.specs.CheckedRuns.{IsAllowed}
 use Rattle.tx_jobs.specs.declared.job_fault.JobFault.{JobFault}
 use Rattle.tx_jobs.specs.declared.job_fault.JobFault.TheVariants.{Write}
-use Rattle.tx_jobs.specs.JobFaults.{run_fault}
-use Rattle.tx_jobs.specs.Jobs.{PlanRead, PlanRefused}
+use Rattle.tx_jobs.specs.Jobs.{PlanRead, PlanRefused, ScriptRan}
 use Rattle.tx_jobs.specs.CheckJobs.{CertRead, CertRefused, verdict_for}
+use Rattle.tx_jobs.specs.TellingJobs.{ScriptTold}
 
--- The checker said Yes, and the run stopped.
-pub record RunStopped (p : Plan) (t : Certificate)
-    (limit spare : ℕ) (script : Input) (out : Output) (fault : JobFault) : Type 0 where
-  pub allowed : IsAllowed p t limit spare
-  pub answer : RunFault
-  pub stopped : RanFromOpening p script out (Err answer) ⊎ HadNoRoom script out answer
-  pub told : fault ≡ run_fault answer
+-- the script was run, and its events printed if that is asked for
+abbrev pub ScriptDone : Option Telling → Plan → Input → Output → Result Summary JobFault → Type 0
+ScriptDone None p script out result = ScriptRan p script out result
+ScriptDone (Some telling) p script out result = ScriptTold p telling script out result
 
 -- The checker said No, and the verdict could not be written.
 pub record VerdictStopped (p : Plan) (t : Certificate)
@@ -36,34 +32,29 @@ pub record VerdictStopped (p : Plan) (t : Certificate)
   pub rest : script.unread
   pub told : fault ≡ Write
 
--- The verdict is written where it was a No.
-abbrev pub ToldNo : Plan → Checked → Output → Result (Unit {0}) WriteFault → Type 0
-ToldNo p (Ran summary) out (Ok x) = out.silent
-ToldNo p (Ran summary) out (Err e) = ⊥
-ToldNo p (Denied f) out (Ok x) = out.new ≡ append_known out.old (verdict_written p (No f))
-ToldNo p (Denied f) out (Err e) = StopsIn out.old out.new (verdict_written p (No f))
+module _ (telling : Option Telling) where
+  -- After a Yes the script was run. After a No the verdict was written, and nothing of the script
+  -- was read.
+  abbrev pub ToldRun : Plan → Certificate → (limit spare : ℕ)
+      → Input → Output → Result Checked JobFault → Type 0
+  ToldRun p t limit spare script out (Ok (Ran summary)) =
+      IsAllowed p t limit spare × ScriptDone telling p script out (Ok summary)
+  ToldRun p t limit spare script out (Ok (Denied f)) = (verdict_for p t limit spare ≡ No f)
+      × (out.new ≡ append_known out.old (verdict_written p (No f))) × script.unread
+  ToldRun p t limit spare script out (Err fault) =
+      (IsAllowed p t limit spare × ScriptDone telling p script out (Err fault))
+      ⊎ VerdictStopped p t limit spare script out fault
 
--- After a Yes the script was run. After a No the verdict was written, and nothing of the script was
--- read.
-abbrev pub ToldRun : Plan → Certificate → (limit spare : ℕ)
-    → Input → Output → Result Checked JobFault → Type 0
-ToldRun p t limit spare script out (Ok (Ran summary)) =
-    IsAllowed p t limit spare × RanFromOpening p script out (Ok summary)
-ToldRun p t limit spare script out (Ok (Denied f)) = (verdict_for p t limit spare ≡ No f)
-    × (out.new ≡ append_known out.old (verdict_written p (No f))) × script.unread
-ToldRun p t limit spare script out (Err fault) = RunStopped p t limit spare script out fault
-    ⊎ VerdictStopped p t limit spare script out fault
+  -- the certificate was read and the script run after a Yes, or the certificate was refused
+  abbrev pub CertAnswers : Plan → (limit spare : ℕ)
+      → (cert script : Input) → Output → Result Checked JobFault → Type 0
+  CertAnswers p limit spare cert script out result =
+      CertRead p cert (λ t. ToldRun p t limit spare script out result)
+      ⊎ CertRefused p cert (script.unread × out.silent) result
 
--- the certificate was read and the script run after a Yes, or the certificate was refused
-abbrev pub CertAnswers : Plan → (limit spare : ℕ)
-    → (cert script : Input) → Output → Result Checked JobFault → Type 0
-CertAnswers p limit spare cert script out result =
-    CertRead p cert (λ t. ToldRun p t limit spare script out result)
-    ⊎ CertRefused p cert (script.unread × out.silent) result
-
--- `run PLAN SCRIPT --cert CERT --limit L --spare K`
-abbrev pub CheckedJobAnswers : (limit spare : ℕ)
-    → (plan cert script : Input) → Output → Result Checked JobFault → Type 0
-CheckedJobAnswers limit spare plan cert script out result =
-    PlanRead plan (λ p. CertAnswers p limit spare cert script out result)
-    ⊎ PlanRefused plan (cert.unread × script.unread × out.silent) result
+  -- `run PLAN SCRIPT --cert CERT --limit L --spare K`
+  abbrev pub CheckedJobAnswers : (limit spare : ℕ)
+      → (plan cert script : Input) → Output → Result Checked JobFault → Type 0
+  CheckedJobAnswers limit spare plan cert script out result =
+      PlanRead plan (λ p. CertAnswers p limit spare cert script out result)
+      ⊎ PlanRefused plan (cert.unread × script.unread × out.silent) result

@@ -55,16 +55,7 @@ impl From<PlanFault> for JobFault {
             FaultKind::Frame(FrameFault::Read) => JobFault::Read,
             FaultKind::Frame(FrameFault::NoMemory)
             | FaultKind::Word(PlanWord::Refused(PlanRefusal::NoMemory)) => JobFault::NoMemory,
-            FaultKind::Frame(
-                FrameFault::LineTooLong
-                | FrameFault::BadByte
-                | FrameFault::NoHeader
-                | FrameFault::NoEnd
-                | FrameFault::AfterEnd,
-            )
-            | FaultKind::Word(PlanWord::UnknownWord | PlanWord::Refused(_)) => JobFault::Plan(
-                fault,
-            ),
+            FaultKind::Frame(_) | FaultKind::Word(_) => JobFault::Plan(fault),
         }
     }
 }
@@ -78,20 +69,7 @@ impl From<CertFault> for JobFault {
             FaultKind::Frame(FrameFault::Read) => JobFault::Read,
             FaultKind::Frame(FrameFault::NoMemory) | FaultKind::Word(CertWord::NoMemory) =>
                 JobFault::NoMemory,
-            FaultKind::Frame(
-                FrameFault::LineTooLong
-                | FrameFault::BadByte
-                | FrameFault::NoHeader
-                | FrameFault::NoEnd
-                | FrameFault::AfterEnd,
-            )
-            | FaultKind::Word(
-                CertWord::UnknownWord
-                | CertWord::WrongCount
-                | CertWord::UnknownName
-                | CertWord::BadNumber
-                | CertWord::Duplicate,
-            ) => JobFault::Cert(fault),
+            FaultKind::Frame(_) | FaultKind::Word(_) => JobFault::Cert(fault),
         }
     }
 }
@@ -103,15 +81,7 @@ impl From<ScriptFault> for JobFault {
     fn from(fault: ScriptFault) -> JobFault {
         match fault.kind {
             FaultKind::Frame(FrameFault::NoMemory) => JobFault::NoMemory,
-            FaultKind::Frame(
-                FrameFault::LineTooLong
-                | FrameFault::BadByte
-                | FrameFault::Read
-                | FrameFault::NoHeader
-                | FrameFault::NoEnd
-                | FrameFault::AfterEnd,
-            )
-            | FaultKind::Word(_) => JobFault::Script(fault),
+            FaultKind::Frame(_) | FaultKind::Word(_) => JobFault::Script(fault),
         }
     }
 }

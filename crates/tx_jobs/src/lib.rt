@@ -24,5 +24,5 @@ pub use fault_line::{write_fault, write_plan_fault, write_text_fault};
 pub use job_fault::JobFault;
 pub use pipe::pipe_job;
 pub use run::run_job;
-pub use run_checked::run_checked_job;
+pub use run_checked::{run_checked_job, run_checked_telling_job};
 pub use telling::run_telling_job;

@@ -35,7 +35,7 @@ pub fn run_telling_job<A: Allocator + Copy, P: Source, R: Source, W: Sink>(
 }
 
 /// Runs a script over a network of the plan, from its opening state, and returns what is asked for.
-fn tell_script<A: Allocator + Copy, R: Source, W: Sink>(
+pub(crate) fn tell_script<A: Allocator + Copy, R: Source, W: Sink>(
     alloc: A,
     telling: Telling,
     plan: &Plan<A>,

@@ -16,7 +16,7 @@ pub use Rattle.std.specs.Str.{bytes_eq}
 pub use Rattle.tx_join.specs.Differences.{circuits_lines, count_of_entries, each_written, entry_lines, has_other_circuits, has_range, is_known, is_range}
 pub use Rattle.tx_join.specs.Joined.{bar_in, bars_from, bars_of_code, bars_over, circuits_named, code_in, exchange_in, group_in, has_both, joined_code, joined_group, joined_network, joined_new, joined_old, plan_over, route_in, routes_over, shared_bars, widened}
 pub use Rattle.tx_join.specs.Laws.{AreOverBoth, CanBeJoined, HasNetwork, HaveTheirLists}
-pub use Rattle.tx_join.specs.ListCounts.{counted_at, is_counted}
+pub use Rattle.tx_join.specs.ListCounts.{changed_at, is_changed}
 pub use Rattle.tx_join.specs.Refusals.{has_other_group, has_other_home, has_too_many, is_same_direction, is_same_exchange, is_same_group, join_refusal, refused_if}
 pub use Rattle.tx_join.specs.declared.refusal.JoinRefusal.TheVariants.{NoMemory, OtherGroup, OtherHome, TooMany}
 pub use Rattle.tx_join.specs.inner.Declared.{KnowsCodes, KnowsExchanges, KnowsGroups, known_code, known_group, known_range, with_codes, with_exchanges, with_groups, with_ranges}
@@ -42,7 +42,6 @@ pub use Rattle.tx_plan.specs.declared.range.LineRange.{LineRange}
 pub use Rattle.tx_plantext.specs.PlanWritten.{bar_words, route_words}
 pub use Rattle.tx_text.proofs.Exits.{exits_with}
 pub use Rattle.tx_text.proofs.Putting.{puts_is, puts_none, puts_then}
-pub use Rattle.tx_text.proofs.Ranges.{lines_done, lines_more}
 pub use Rattle.tx_text.specs.Puts.{Puts}
 pub use Rattle.tx_text.specs.Words.{is_name}
 pub use Rattle.tx_text.specs.Written.{line_written}

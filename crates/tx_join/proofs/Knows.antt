@@ -1,6 +1,6 @@
 -- A plan that knows the names of another one has its exchanges, codes and groups, each under an index
 -- of its own.
-use Rattle.tx_join.proofs.Common.{◌≡◌, ℕ, ◌<◌, true, List, [], length, Some, sym, ap, ◌∙◌, option_map_or, bytes_eq, bytes_eq-Decides, Plan, Code, Group, exchange_named, code_named, group_named, exchange_name, figures_of, group_name, IsPlan, exchange_back, code_back, group_back, exchange_in, code_in, group_in, KnowsExchanges, KnowsCodes, KnowsGroups}
+use Rattle.tx_join.proofs.Common.{◌≡◌, ℕ, ◌<◌, true, List, [], length, Option, Some, sym, ap, ◌∙◌, option_map_or, bytes_eq, bytes_eq-Decides, Plan, Code, Group, exchange_named, code_named, group_named, exchange_name, figures_of, group_name, IsPlan, exchange_back, code_back, group_back, exchange_in, code_in, group_in, KnowsExchanges, KnowsCodes, KnowsGroups}
 use Rattle.tx_plan.proofs.Growing.{exchange_within, code_within}
 use Rattle.tx_plan.proofs.Lists.{placed_within}
 use Rattle.tx_join.proofs.Found.{entry_found}
@@ -39,26 +39,17 @@ module _ (q p : Plan) where
 
   -- NO TWO ARE ONE
   module _ (ok : IsPlan p) where
-    pub exchanges_apart : ((x : ℕ) → x < length p.exchanges → exchange_name q (exchange_in q p x) ≡ exchange_name p x) → (x y : ℕ) → x < length p.exchanges → y < length p.exchanges → exchange_in q p x ≡ exchange_in q p y → x ≡ y
-    exchanges_apart named x y l m e =
-        let names : exchange_name p x ≡ exchange_name p y = sym (named x l) ∙ ap (exchange_name q) e ∙ named y m in
-        let b = (exchange_back p ok x l).back in
-        let d = (exchange_back p ok y m).back in
-        let s : Some x ≡ Some y = sym b ∙ ap (exchange_named p) names ∙ d in
+    -- two of one name are one
+    apart : (name there : ℕ → List ℕ) (place : ℕ → ℕ) (named : List ℕ → Option ℕ) (x y : ℕ) → named (name x) ≡ Some x → named (name y) ≡ Some y → there (place x) ≡ name x → there (place y) ≡ name y → place x ≡ place y → x ≡ y
+    apart name there place named x y b d n m e =
+        let s : Some x ≡ Some y = sym b ∙ ap named (sym n ∙ ap there e ∙ m) ∙ d in
         cc
+
+    pub exchanges_apart : ((x : ℕ) → x < length p.exchanges → exchange_name q (exchange_in q p x) ≡ exchange_name p x) → (x y : ℕ) → x < length p.exchanges → y < length p.exchanges → exchange_in q p x ≡ exchange_in q p y → x ≡ y
+    exchanges_apart named x y l m e = apart (exchange_name p) (exchange_name q) (exchange_in q p) (exchange_named p) x y (exchange_back p ok x l).back (exchange_back p ok y m).back (named x l) (named y m) e
 
     pub codes_apart : ((c : ℕ) → c < length p.codes → figures_of q (code_in q p c) ≡ figures_of p c) → (c d : ℕ) → c < length p.codes → d < length p.codes → code_in q p c ≡ code_in q p d → c ≡ d
-    codes_apart named x y l m e =
-        let names : figures_of p x ≡ figures_of p y = sym (named x l) ∙ ap (figures_of q) e ∙ named y m in
-        let b = (code_back p ok x l).back in
-        let d = (code_back p ok y m).back in
-        let s : Some x ≡ Some y = sym b ∙ ap (code_named p) names ∙ d in
-        cc
+    codes_apart named x y l m e = apart (figures_of p) (figures_of q) (code_in q p) (code_named p) x y (code_back p ok x l).back (code_back p ok y m).back (named x l) (named y m) e
 
     pub groups_apart : ((g : ℕ) → g < length p.groups → group_name q (group_in q p g) ≡ group_name p g) → (g h : ℕ) → g < length p.groups → h < length p.groups → group_in q p g ≡ group_in q p h → g ≡ h
-    groups_apart named x y l m e =
-        let names : group_name p x ≡ group_name p y = sym (named x l) ∙ ap (group_name q) e ∙ named y m in
-        let b = (group_back p ok x l).back in
-        let d = (group_back p ok y m).back in
-        let s : Some x ≡ Some y = sym b ∙ ap (group_named p) names ∙ d in
-        cc
+    groups_apart named x y l m e = apart (group_name p) (group_name q) (group_in q p) (group_named p) x y (group_back p ok x l).back (group_back p ok y m).back (named x l) (named y m) e

@@ -1,6 +1,7 @@
 -- The joined network as it is declared, list by list.
-use Rattle.tx_join.proofs.Common.{◌≡◌, ◌≢◌, ℕ, Bool, true, false, not, cond, List, [], ◌∷◌, ◌++◌, map, max, refl, ap, ◌∙◌, arith, filter, AllByRecursion, option_map_or, bytes_eq, not-true, IsPlan, IsCode, IsGroup, EachPair, count_of, has_exchange, has_code, has_group, all_map, longer_by, no_index, none_passes, list_any-map, joined_network, joined_group, widened, circuits_named, CanBeJoined, with_exchanges, known_code, with_codes, known_range, with_ranges, known_group, with_groups, KnowsExchanges, KnowsCodes}
+use Rattle.tx_join.proofs.Common.{◌≡◌, ◌≢◌, ℕ, Bool, true, false, not, cond, List, [], ◌∷◌, ◌++◌, map, max, refl, ap, ◌∙◌, arith, length, ◌≤◌, filter, AllByRecursion, option_map_or, bytes_eq, not-true, IsPlan, IsCode, IsRange, IsGroup, EachPair, LineRange, count_of, has_exchange, has_code, has_group, all_map, longer_by, no_index, none_passes, list_any-map, joined_network, joined_group, widened, circuits_named, CanBeJoined, with_exchanges, known_code, with_codes, known_range, with_ranges, known_group, with_groups, KnowsExchanges, KnowsCodes}
 use Rattle.tx_plan.specs.Plan.{Plan, Code, Group, no_plan}
+use Rattle.tx_plan.specs.Rules.{AreSeparate}
 use Rattle.tx_join.proofs.Found.{filter_all, map_same}
 use Rattle.tx_join.proofs.JoinedNetwork.{network_rules}
 use Rattle.tx_join.proofs.NextDeclared.{all_true}
@@ -119,105 +120,57 @@ module _ (old new : Plan) (can : CanBeJoined old new) where
     bars_differ = tt;
   }
 
-  pub rules_2 : IsPlan stage_2
-  rules_2 = record {
+  -- a stage, by its codes, its ranges and its groups
+  abbrev staged : List Code → List LineRange → List Group → Plan
+  staged cs rs gs = record stage_2 { codes = cs; ranges = rs; groups = gs }
+
+  by_lists : (cs : List Code) (rs : List LineRange) (gs : List Group) → AllByRecursion (IsCode (staged cs rs gs)) cs → EachPair (λ (c d : Code). c.figures ≢ d.figures) cs → length cs ≤ 1100
+      → AllByRecursion (IsRange (staged cs rs gs)) rs → EachPair AreSeparate rs → length rs ≤ 4096
+      → AllByRecursion (IsGroup (staged cs rs gs)) gs → EachPair (λ (g h : Group). g.name ≢ h.name) gs → length gs ≤ 4096 → IsPlan (staged cs rs gs)
+  by_lists cs rs gs codes differ few ranges apart few_ranges groups groups_differ few_groups = record {
     exchanges = rules.exchanges;
     exchanges_differ = rules.exchanges_differ;
     few_exchanges = rules.few_exchanges;
-    codes = tt;
-    codes_differ = tt;
-    few_codes = omega arith;
-    ranges = tt;
-    ranges_apart = tt;
-    few_ranges = omega arith;
-    groups = tt;
-    groups_differ = tt;
-    few_groups = omega arith;
+    codes = codes;
+    codes_differ = differ;
+    few_codes = few;
+    ranges = ranges;
+    ranges_apart = apart;
+    few_ranges = few_ranges;
+    groups = groups;
+    groups_differ = groups_differ;
+    few_groups = few_groups;
     routes = tt;
     routes_differ = tt;
     bars = tt;
     bars_differ = tt;
   }
+
+  -- a list without entries is short
+  none : 0 ≤ 4096
+  none = omega arith
+
+  pub rules_2 : IsPlan stage_2
+  rules_2 = by_lists [] [] [] tt tt (omega arith) tt tt none tt tt none
 
   pub rules_3 : IsPlan stage_3
-  rules_3 = record {
-    exchanges = rules.exchanges;
-    exchanges_differ = rules.exchanges_differ;
-    few_exchanges = rules.few_exchanges;
-    codes = all_map old.codes (λ c h. record { figures = h.figures; home = h.home }) (front_all (IsCode joined) old.codes _ rules.codes);
-    codes_differ = ok.codes_differ;
-    few_codes = ok.few_codes;
-    ranges = tt;
-    ranges_apart = tt;
-    few_ranges = omega arith;
-    groups = tt;
-    groups_differ = tt;
-    few_groups = omega arith;
-    routes = tt;
-    routes_differ = tt;
-    bars = tt;
-    bars_differ = tt;
-  }
+  rules_3 = by_lists old.codes [] [] (all_map old.codes (λ c h. record { figures = h.figures; home = h.home }) (front_all (IsCode joined) old.codes _ rules.codes)) ok.codes_differ ok.few_codes tt tt none tt tt none
 
   pub rules_4 : IsPlan stage_4
-  rules_4 = record {
-    exchanges = rules.exchanges;
-    exchanges_differ = rules.exchanges_differ;
-    few_exchanges = rules.few_exchanges;
-    codes = all_map joined.codes (λ c h. record { figures = h.figures; home = h.home }) rules.codes;
-    codes_differ = rules.codes_differ;
-    few_codes = rules.few_codes;
-    ranges = tt;
-    ranges_apart = tt;
-    few_ranges = omega arith;
-    groups = tt;
-    groups_differ = tt;
-    few_groups = omega arith;
-    routes = tt;
-    routes_differ = tt;
-    bars = tt;
-    bars_differ = tt;
-  }
+  rules_4 = by_lists joined.codes [] [] (all_map joined.codes (λ c h. record { figures = h.figures; home = h.home }) rules.codes) rules.codes_differ rules.few_codes tt tt none tt tt none
 
   pub rules_5 : IsPlan stage_5
-  rules_5 = record {
-    exchanges = rules.exchanges;
-    exchanges_differ = rules.exchanges_differ;
-    few_exchanges = rules.few_exchanges;
-    codes = all_map joined.codes (λ c h. record { figures = h.figures; home = h.home }) rules.codes;
-    codes_differ = rules.codes_differ;
-    few_codes = rules.few_codes;
-    ranges = all_map old.ranges (λ r h. record { code = h.code; low = h.low; high = h.high; width = h.width; order = h.order }) rules.ranges;
-    ranges_apart = rules.ranges_apart;
-    few_ranges = rules.few_ranges;
-    groups = tt;
-    groups_differ = tt;
-    few_groups = omega arith;
-    routes = tt;
-    routes_differ = tt;
-    bars = tt;
-    bars_differ = tt;
-  }
+  rules_5 =
+      by_lists joined.codes old.ranges [] (all_map joined.codes (λ c h. record { figures = h.figures; home = h.home }) rules.codes) rules.codes_differ rules.few_codes
+      (all_map old.ranges (λ r h. record { code = h.code; low = h.low; high = h.high; width = h.width; order = h.order }) rules.ranges) rules.ranges_apart rules.few_ranges tt tt none
 
   pub rules_6 : IsPlan stage_6
-  rules_6 = record {
-    exchanges = rules.exchanges;
-    exchanges_differ = rules.exchanges_differ;
-    few_exchanges = rules.few_exchanges;
-    codes = all_map joined.codes (λ c h. record { figures = h.figures; home = h.home }) rules.codes;
-    codes_differ = rules.codes_differ;
-    few_codes = rules.few_codes;
-    ranges = all_map old.ranges (λ r h. record { code = h.code; low = h.low; high = h.high; width = h.width; order = h.order }) rules.ranges;
-    ranges_apart = rules.ranges_apart;
-    few_ranges = rules.few_ranges;
-    groups = all_map (map (widened new) old.groups) (λ g h. record { name = h.name; first = h.first; second = h.second; ends_differ = h.ends_differ; some = h.some; few = h.few }) (front_all (IsGroup joined) (map (widened new) old.groups) _ rules.groups);
-    groups_differ = front_pairs (λ (g h : Group). g.name ≢ h.name) (map (widened new) old.groups) _ rules.groups_differ;
-    few_groups = (let l = longer_by (map (widened new) old.groups) (map (joined_group old new) (filter (λ g. not (has_group old g.name)) new.groups)) in let m = rules.few_groups in omega (arith, l, m));
-    routes = tt;
-    routes_differ = tt;
-    bars = tt;
-    bars_differ = tt;
-  }
+  rules_6 =
+      by_lists joined.codes old.ranges (map (widened new) old.groups) (all_map joined.codes (λ c h. record { figures = h.figures; home = h.home }) rules.codes) rules.codes_differ rules.few_codes
+      (all_map old.ranges (λ r h. record { code = h.code; low = h.low; high = h.high; width = h.width; order = h.order }) rules.ranges) rules.ranges_apart rules.few_ranges
+      (all_map (map (widened new) old.groups) (λ g h. record { name = h.name; first = h.first; second = h.second; ends_differ = h.ends_differ; some = h.some; few = h.few }) (front_all (IsGroup joined) (map (widened new) old.groups) _ rules.groups))
+      (front_pairs (λ (g h : Group). g.name ≢ h.name) (map (widened new) old.groups) _ rules.groups_differ)
+      (let l = longer_by (map (widened new) old.groups) (map (joined_group old new) (filter (λ g. not (has_group old g.name)) new.groups)) in let m = rules.few_groups in omega (arith, l, m))
 
   -- WHAT IS KNOWN
 

@@ -1,4 +1,6 @@
 // In what two plans differ beside their lists and bars.
+#![tactic(auto, using(tx_text::proofs::Putting::puts_none, tx_text::proofs::Ranges::lines_more, tx_text::proofs::Ranges::lines_done))]
+
 ghost use Rattle.std.specs.Prelude.{◌≡◌, ◌<◌, false, length};
 ghost use Rattle.std.specs.List.{flat_map, list_any, range_with_len};
 ghost use Rattle.tx_text.specs.Puts.{Puts};

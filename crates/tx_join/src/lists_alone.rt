@@ -1,4 +1,6 @@
 // The writer of the lists and bars for an exchange or a code that one of two plans has alone.
+#![tactic(auto, using(tx_text::proofs::Putting::puts_none, crate::proofs::AloneLines::kept_more, crate::proofs::AloneLines::kept_all))]
+
 ghost use Rattle.std.specs.Prelude.{[], ◌∷◌, not, if◌then◌else◌};
 ghost use Rattle.tx_text.specs.Puts.{Puts};
 ghost use Rattle.tx_text.specs.Written.{line_written};

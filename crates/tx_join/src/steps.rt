@@ -1,4 +1,6 @@
 // The writer of what is done before and after the lists and bars of both plans are switched.
+#![tactic(auto, using(tx_text::proofs::Putting::puts_then))]
+
 ghost use Rattle.tx_text.specs.Puts.{Puts};
 ghost use Rattle.tx_join.specs.Steps.{put_text, network_gone, gone_text, opened_text, before_text, after_text};
 

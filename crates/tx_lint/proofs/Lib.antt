@@ -2,6 +2,7 @@ pub mod Agreeing
 pub mod AllRead
 pub mod Gathered
 pub mod Linted
+pub mod NoneLost
 pub mod Marked
 pub mod Texts
 pub mod Warned

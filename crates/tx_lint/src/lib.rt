@@ -21,7 +21,7 @@ mod word_tests;
 pub use escaped::write_escaped;
 pub use fault::Fault;
 pub use gathering::Told;
-pub use law::faults_agree_with_reader;
+pub use law::{faults_agree_with_reader, no_fault_is_lost};
 pub use lint_text::write_lint;
 pub use linting::{Lint, Look, RightText, lint_plan, look_through};
 pub use warning::Warning;

@@ -48,6 +48,6 @@ pub use Rattle.tx_rank.specs.Grades.{CanBeCertified}
 pub use Rattle.tx_rank.specs.Heights.{IsReached}
 pub use Rattle.tx_rank.specs.Nets.{Certifies}
 pub use Rattle.tx_rank.specs.Walks.{AllDiffer, Net, net_of}
-pub use Rattle.tx_text.proofs.Putting.{puts_all, puts_is, puts_more, puts_none, puts_then}
+pub use Rattle.tx_text.proofs.Putting.{puts_is, puts_none, puts_then}
 pub use Rattle.tx_text.specs.Puts.{Puts}
 pub use mir.Val.{bool_byte}

@@ -1,4 +1,6 @@
 // The lines of codes for which something cannot be served.
+#![tactic(auto, using(tx_text::proofs::Putting::puts_none, tx_text::proofs::Putting::puts_then, tx_text::proofs::Putting::puts_more, tx_text::proofs::Putting::puts_all, tx_text::proofs::Ranges::index_more, tx_text::proofs::Ranges::indexes_done))]
+
 ghost use Rattle.std.specs.Prelude.{◌≡◌, ◌==◌, length, filter};
 ghost use Rattle.std.specs.List.{flat_map};
 ghost use Rattle.tx_text.specs.Puts.{Puts};

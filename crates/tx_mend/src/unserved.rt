@@ -1,4 +1,6 @@
 // The report of a plan for which no routes can be certified.
+#![tactic(auto, using(tx_text::proofs::Putting::puts_none, tx_text::proofs::Putting::puts_more, tx_text::proofs::Putting::puts_all))]
+
 ghost use Rattle.std.specs.Prelude.{◌≡◌, ◌+◌};
 ghost use Rattle.std.specs.List.{flat_map};
 ghost use Rattle.tx_text.specs.Puts.{Puts};

@@ -25,7 +25,7 @@ pub use Rattle.tx_order.specs.Orders.{AreAlike, AreAlikeFor, CanBothBeCertified,
 pub use Rattle.tx_order.specs.Stages.{AreBothCertified, plan_at, plan_of, ranks_at, ranks_by}
 pub use Rattle.tx_order.specs.Switchings.{HasCleared, IsOrdered}
 pub use Rattle.tx_order.specs.Transitions.{IsTransition, Transition, has_bar, has_list, plan_front, plan_with}
-pub use Rattle.tx_order.specs.inner.Asked.{AreListsOf}
+pub use Rattle.tx_order.specs.inner.Asked.{AreListsOf, plan_stopped}
 pub use Rattle.tx_order.specs.inner.Certified.{IsCertifiedBelow}
 pub use Rattle.tx_plan.proofs.Lists.{all_map}
 pub use Rattle.tx_plan.proofs.Networks.{rerouted-is, same_along, same_back}
@@ -44,6 +44,5 @@ pub use Rattle.tx_rank.specs.Walks.{Net}
 pub use Rattle.tx_rank.specs.declared.finding.Finding.{Finding}
 pub use Rattle.tx_rank.specs.declared.ranking.Ranking.{Ranking}
 pub use Rattle.tx_rank.specs.declared.ranking.Ranking.TheVariants.{Fails, Found}
-pub use Rattle.tx_text.proofs.Putting.{puts_is, puts_none, puts_then}
-pub use Rattle.tx_text.proofs.Ranges.{index_more, indexes_done}
+pub use Rattle.tx_text.proofs.Putting.{puts_is, puts_then}
 pub use Rattle.tx_text.specs.Puts.{Puts}

@@ -1,5 +1,6 @@
 -- The plans before and after a stage, and what the checker says of them.
-use Rattle.tx_order.proofs.Common.{◌≡◌, ℕ, ◌+◌, ◌<◌, ◌≤◌, refl, ◌∙◌, subst, Plan, IsPlan, rerouted, SameNetwork, AreCommon, same_back, same_along, rerouted-is, Certificate, IsCertificateOf, ranks_of, IsConfirmed, Ranking, Found, Fails, CanBeCertified, IsRightRanking, levels_of, IsOrder, Order, plan_before, stages_in, IsOrderKept, Lists, AreListsOf}
+use Rattle.tx_order.proofs.Common.{◌≡◌, ℕ, ◌+◌, ◌<◌, ◌≤◌, List, Option, None, Pair, refl, ◌∙◌, subst, Plan, IsPlan, rerouted, SameNetwork, AreCommon, same_back, same_along, rerouted-is, Certificate, IsCertificateOf, ranks_of, IsConfirmed, Ranking, Found, Fails, CanBeCertified, IsRightRanking, CanBothBeCertified, levels_of, IsOrder, Order, plan_before, stages_in, IsOrderKept, Lists, AreListsOf, plan_stopped}
+use Rattle.tx_join.specs.declared.joining.Joined.{Joined}
 use Rattle.tx_change.proofs.Cleared.{certificate_along, cleared}
 use Rattle.tx_order.specs.Switchings.{HasCleared, IsOrdered, HasNoOrder}
 use Rattle.tx_order.proofs.Ordered.{is_order_of, stage_used, few_stages}
@@ -22,8 +23,11 @@ module _ (o : Order) (k : IsOrderKept o) where
 
 -- the old plan with the lists of a plan on the way is that plan
 module _ {A : Type 0} (o : Order) where
+  pub with_stopped : (s : ℕ) (pairs : Option (List Pair)) (l : Lists A) → AreListsOf (plan_stopped o s pairs) l → rerouted o.transition.old l.routes l.bars ≡ plan_stopped o s pairs
+  with_stopped s pairs l a = λ i. rerouted o.transition.old (a.routes i) (a.bars i)
+
   pub with_lists : (s : ℕ) (l : Lists A) → AreListsOf (plan_before o s) l → rerouted o.transition.old l.routes l.bars ≡ plan_before o s
-  with_lists s l a = λ i. rerouted o.transition.old (a.routes i) (a.bars i)
+  with_lists s l a = with_stopped s None l a
 
   -- and with its own it is itself
   pub with_own : (p : Plan) (l : Lists A) → SameNetwork p o.transition.old → AreListsOf o.transition.old l → rerouted p l.routes l.bars ≡ o.transition.old
@@ -49,13 +53,16 @@ ordered o k old new limit spare a b c d cleared = record {
 
 -- WHERE ONE OF THE PLANS CANNOT BE CERTIFIED
 
-module _ {A : Type 0} (old new : Plan) (limit spare : ℕ) (before after : Ranking A) (a : IsRightRanking old limit spare before) (b : IsRightRanking new limit spare after) where
+module _ {A : Type 0} (plans : Joined A) (limit spare : ℕ) (before after : Ranking A) (a : IsRightRanking plans.old limit spare before) (b : IsRightRanking plans.new limit spare after) where
   not_found : (p : Plan) (r : Ranking A) → ((cert : Certificate) → r ≡ Found cert → ⊥) → IsRightRanking p limit spare r → CanBeCertified p limit spare → ⊥
   not_found p (Found cert) none h = absurd (none cert refl)
   not_found p (Fails findings) none h = h.2
 
-  pub old_denied : ((cert : Certificate) → before ≡ Found cert → ⊥) → HasNoOrder old new limit spare old before after
-  old_denied none = record { plan = refl; before_right = a; after_right = b; none = λ can. not_found old before none a can.0 }
+  denied : (CanBothBeCertified plans.old plans.new limit spare → ⊥) → HasNoOrder plans.old plans.new limit spare plans before after
+  denied none = record { old_plan = refl; new_plan = refl; before_right = a; after_right = b; none = none }
 
-  pub new_denied : ((cert : Certificate) → after ≡ Found cert → ⊥) → HasNoOrder old new limit spare old before after
-  new_denied none = record { plan = refl; before_right = a; after_right = b; none = λ can. not_found new after none b can.1 }
+  pub old_denied : ((cert : Certificate) → before ≡ Found cert → ⊥) → HasNoOrder plans.old plans.new limit spare plans before after
+  old_denied none = denied (λ can. not_found plans.old before none a can.0)
+
+  pub new_denied : ((cert : Certificate) → after ≡ Found cert → ⊥) → HasNoOrder plans.old plans.new limit spare plans before after
+  new_denied none = denied (λ can. not_found plans.new after none b can.1)

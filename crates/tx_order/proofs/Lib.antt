@@ -8,6 +8,8 @@ pub mod Ordered
 pub mod StageCerts
 pub mod Confirming
 pub mod Staging
+pub mod Stopping
+pub mod DoneLines
 pub mod Verdicts
 pub mod StagedRuns
 pub mod StagedTurns

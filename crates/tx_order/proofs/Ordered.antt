@@ -238,7 +238,7 @@ module _ (o : Order) (k : IsOrderKept o) where
       let q = front_safe o.transition c k.transition h r.0 (k.stages.each c r.0 r.1) s in
       subst (λ (n : ℕ). IsSafeBetween o.transition c n (fronts_before o (s + 1) c)) (sym (r.2 s)) (subst (λ (n : ℕ). IsSafeBetween o.transition c (front_of o.transition.limit r.0 s) n) (sym (r.2 (s + 1))) q)
 
-  stage_common : (s : ℕ) → (ranks : Ranks) × AreCommon (plan_before o s) (plan_before o (s + 1)) ranks o.transition.limit o.transition.spare
+  pub stage_common : (s : ℕ) → (ranks : Ranks) × AreCommon (plan_before o s) (plan_before o (s + 1)) ranks o.transition.limit o.transition.spare
   stage_common s = codes_common o.transition k.transition (fronts_before o s) (fronts_before o (s + 1)) (λ c h. code_safe s c h)
 
   -- no stage: nothing differs

@@ -14,6 +14,7 @@ use Rattle.tx_change.specs.inner.Joined.{Joined, AreJoined, joined_net}
 use Rattle.tx_change.proofs.ChangeNets.{is_change_net}
 use Rattle.tx_change.proofs.JoinedNets.{joined_is}
 use Rattle.tx_change.proofs.CommonRanks.{common_codes, common_certifies}
+use Rattle.tx_order.specs.Stages.{switched}
 use Rattle.tx_order.proofs.Switched.{list_new, list_old, bar_new, bar_old}
 use Rattle.tx_order.proofs.Leading.{by_mixtures, stage_safe}
 use Rattle.tx_order.proofs.OnTheWay.{plan_certified}
@@ -28,18 +29,29 @@ list_at w front c x = cond (has_list w front x c) (route_list w.new x c) (route_
 abbrev pub barred_at : Transition → (front c x : ℕ) → Bool
 barred_at w front c x = cond (has_bar w front x c) (is_barred w.new x c) (is_barred w.old x c)
 
-module _ (w : Transition) (fronts : ℕ → ℕ) (x c : ℕ) where
-  pub plan_list : route_list (plan_with w fronts) x c ≡ list_at w (fronts c) c x
-  plan_list = elim (has_list w (fronts c) x c) as (λ b. has_list w (fronts c) x c ≡ b → route_list (plan_with w fronts) x c ≡ cond b (route_list w.new x c) (route_list w.old x c)) [
-    | true ↦ λ e. list_new w.old w.new (λ x c. has_list w (fronts c) x c) (λ x c. has_bar w (fronts c) x c) x c e
-    | false ↦ λ e. list_old w.old w.new (λ x c. has_list w (fronts c) x c) (λ x c. has_bar w (fronts c) x c) x c e
+-- where each exchange has a front of its own for a code
+module _ (w : Transition) (fronts : ℕ → ℕ → ℕ) (x c : ℕ) where
+  abbrev there : Plan
+  there = switched w.old w.new (λ x c. has_list w (fronts x c) x c) (λ x c. has_bar w (fronts x c) x c)
+
+  pub list_there : route_list there x c ≡ list_at w (fronts x c) c x
+  list_there = elim (has_list w (fronts x c) x c) as (λ b. has_list w (fronts x c) x c ≡ b → route_list there x c ≡ cond b (route_list w.new x c) (route_list w.old x c)) [
+    | true ↦ λ e. list_new w.old w.new (λ x c. has_list w (fronts x c) x c) (λ x c. has_bar w (fronts x c) x c) x c e
+    | false ↦ λ e. list_old w.old w.new (λ x c. has_list w (fronts x c) x c) (λ x c. has_bar w (fronts x c) x c) x c e
   ] refl
 
-  pub plan_bar : is_barred (plan_with w fronts) x c ≡ barred_at w (fronts c) c x
-  plan_bar = elim (has_bar w (fronts c) x c) as (λ b. has_bar w (fronts c) x c ≡ b → is_barred (plan_with w fronts) x c ≡ cond b (is_barred w.new x c) (is_barred w.old x c)) [
-    | true ↦ λ e. bar_new w.old w.new (λ x c. has_list w (fronts c) x c) (λ x c. has_bar w (fronts c) x c) x c e
-    | false ↦ λ e. bar_old w.old w.new (λ x c. has_list w (fronts c) x c) (λ x c. has_bar w (fronts c) x c) x c e
+  pub bar_there : is_barred there x c ≡ barred_at w (fronts x c) c x
+  bar_there = elim (has_bar w (fronts x c) x c) as (λ b. has_bar w (fronts x c) x c ≡ b → is_barred there x c ≡ cond b (is_barred w.new x c) (is_barred w.old x c)) [
+    | true ↦ λ e. bar_new w.old w.new (λ x c. has_list w (fronts x c) x c) (λ x c. has_bar w (fronts x c) x c) x c e
+    | false ↦ λ e. bar_old w.old w.new (λ x c. has_list w (fronts x c) x c) (λ x c. has_bar w (fronts x c) x c) x c e
   ] refl
+
+module _ (w : Transition) (fronts : ℕ → ℕ) (x c : ℕ) where
+  pub plan_list : route_list (plan_with w fronts) x c ≡ list_at w (fronts c) c x
+  plan_list = list_there w (λ _ c. fronts c) x c
+
+  pub plan_bar : is_barred (plan_with w fronts) x c ≡ barred_at w (fronts c) c x
+  plan_bar = bar_there w (λ _ c. fronts c) x c
 
 -- they depend on the front of the code alone
 module _ (w : Transition) (fronts : ℕ → ℕ) (x c front : ℕ) (is : front ≡ fronts c) where

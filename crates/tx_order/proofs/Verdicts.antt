@@ -1,6 +1,7 @@
 -- The verdict on an order is right.
 use Rattle.tx_order.proofs.Common.{◌≡◌, ℕ, subst, Plan, Certificate, ranks_of, Finding, Ranking, Found, Fails, CanBeCertified, IsRightRanking, CanBothBeCertified, Order}
 use Rattle.std.specs.Prelude.{Vec}
+use Rattle.tx_join.specs.declared.joining.Joined.{Joined}
 use Rattle.tx_order.specs.declared.switching.Switching.{Switching}
 use Rattle.tx_order.specs.declared.switching.Switching.TheVariants.{Ordered as FoundOrdered, NoOrder as FoundNoOrder}
 use Rattle.tx_order.specs.declared.judging.OrderVerdict.TheVariants.{Ordered, NoOrder, NewUnsound}
@@ -33,5 +34,5 @@ module _ (before after : Plan) (limit spare : ℕ) where
     pub was_ordered : (o : Order) → s ≡ FoundOrdered o → IsOrdered before after limit spare o
     was_ordered o e = subst (IsRightSwitching before after limit spare) e right
 
-    pub none_found : (new p : Plan) (b a : Ranking A) → s ≡ FoundNoOrder p b a → IsRightVerdict before after new limit spare (NoOrder p b a)
-    none_found new p b a e = subst (IsRightSwitching before after limit spare) e right
+    pub none_found : (new : Plan) (plans : Joined A) (b a : Ranking A) → s ≡ FoundNoOrder plans b a → IsRightVerdict before after new limit spare (NoOrder plans b a)
+    none_found new plans b a e = subst (IsRightSwitching before after limit spare) e right

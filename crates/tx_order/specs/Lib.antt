@@ -11,4 +11,6 @@ pub mod OrderVerdicts
 pub mod OrderText
 pub mod Staged
 pub mod LeadsOver
+pub mod Stopped
+pub mod DoneText
 pub mod inner

@@ -66,21 +66,22 @@ module _ {A : Type 0} where
   -- the stages, if there are any
   abbrev pub found_text : OrderVerdict A → List ℕ
   found_text (Ordered o) = stages_text o
-  found_text (NoOrder p before after) = []
+  found_text (NoOrder plans before after) = []
   found_text (NewUnsound findings) = []
 
   -- YES, or what is wrong with both plans over the joined network, or with the new plan as it is, by
   -- its own names
   abbrev pub verdict_text : (new : Plan) → OrderVerdict A → List ℕ
   verdict_text new (Ordered o) = codes "VERDICT YES\n"
-  verdict_text new (NoOrder p before after) =
-      no_order_text p (findings_of before) (findings_of after)
+  verdict_text new (NoOrder plans before after) =
+      no_order_text plans.old (findings_of before) (findings_of after)
   verdict_text new (NewUnsound findings) = verdict_after (codes "NEW ") new findings.items
 
-  -- The report: what was asked, what is done before the first stage, the stages, with the lists that
-  -- are replaced, what is done after the last one, how many lists there are, and the verdict
-  abbrev pub order_report : (old new : Plan) → (limit spare : ℕ)
+  -- The report: what was asked, after the word that says which order it is; what is done before the
+  -- first stage, the stages, with the lists that are replaced, what is done after the last one, how
+  -- many lists there are, and the verdict
+  abbrev pub order_report : (word : List ℕ) → (old new : Plan) → (limit spare : ℕ)
       → OrderVerdict A → List ℕ
-  order_report old new limit spare verdict = asked_line (codes "ORDER") limit spare
+  order_report word old new limit spare verdict = asked_line word limit spare
       ++ (before_text old new ++ (found_text verdict ++ (after_text old new
       ++ (lists_line old new ++ verdict_text new verdict))))

@@ -17,7 +17,7 @@ module _ {A : Type 0} where
       → Type 0
   IsRightVerdict before after new limit spare (Ordered o) =
       IsOrdered before after limit spare o × IsClearedPlan new limit spare
-  IsRightVerdict before after new limit spare (NoOrder p b a) =
-      HasNoOrder before after limit spare p b a
+  IsRightVerdict before after new limit spare (NoOrder plans b a) =
+      HasNoOrder before after limit spare plans b a
   IsRightVerdict before after new limit spare (NewUnsound findings) =
       CanBothBeCertified before after limit spare × IsRightRanking new limit spare (Fails findings)

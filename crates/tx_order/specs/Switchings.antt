@@ -2,6 +2,7 @@
 use Rattle.std.specs.Prelude.{◌≡◌, ℕ, ◌+◌, ◌<◌, ◌≤◌}
 use Rattle.tx_plan.specs.Plan.{Plan}
 use Rattle.tx_cert.specs.Certificate.{Certificate}
+use Rattle.tx_join.specs.declared.joining.Joined.{Joined}
 use Rattle.tx_rank.specs.declared.ranking.Ranking.{Ranking}
 use Rattle.tx_audit.specs.Audits.{IsRightRanking}
 use Rattle.tx_change.specs.ChangeAnswers.{IsCleared}
@@ -32,9 +33,10 @@ pub record IsOrdered (old new : Plan) (limit spare : ℕ) (o : Order) : Type 0 w
 
 module _ {A : Type 0} where
   -- NO: what is wrong with the old plan, with the new one, or with both
-  pub record HasNoOrder (old new : Plan) (limit spare : ℕ) (p : Plan) (before after : Ranking A)
-      : Type 0 where
-    pub plan : p ≡ old
+  pub record HasNoOrder (old new : Plan) (limit spare : ℕ) (plans : Joined A)
+      (before after : Ranking A) : Type 0 where
+    pub old_plan : plans.old ≡ old
+    pub new_plan : plans.new ≡ new
     pub before_right : IsRightRanking old limit spare before
     pub after_right : IsRightRanking new limit spare after
     pub none : CanBothBeCertified old new limit spare → ⊥
@@ -42,10 +44,15 @@ module _ {A : Type 0} where
   -- an order was found
   abbrev pub IsOrderFound : Switching A → Type 0
   IsOrderFound (Ordered o) = Unit {0}
-  IsOrderFound (NoOrder p before after) = ⊥
+  IsOrderFound (NoOrder plans before after) = ⊥
 
   -- YES with an order, or NO with what is wrong with both plans
   abbrev pub IsRightSwitching : (old new : Plan) → (limit spare : ℕ) → Switching A → Type 0
   IsRightSwitching old new limit spare (Ordered o) = IsOrdered old new limit spare o
-  IsRightSwitching old new limit spare (NoOrder p before after) =
-      HasNoOrder old new limit spare p before after
+  IsRightSwitching old new limit spare (NoOrder plans before after) =
+      HasNoOrder old new limit spare plans before after
+
+  -- both plans, whether there is an order or not
+  abbrev pub plans_of : Switching A → Joined A
+  plans_of (Ordered o) = record { old = o.transition.old; new = o.transition.new }
+  plans_of (NoOrder plans before after) = plans

@@ -20,9 +20,9 @@ use tx_text::NoMemory;
 pub enum OrderVerdict<A: Allocator = Global> {
     /// An order over the joined network, and the new plan as it is is sound.
     Ordered(Order<A>),
-    /// There is none over the joined network: the old plan over it, and what its ranking came to
-    /// and that of the new one over it. One of them has findings.
-    NoOrder(Plan<A>, Ranking<A>, Ranking<A>),
+    /// There is none over the joined network: both plans over it, and what the ranking of the old
+    /// one came to and that of the new one. One of them has findings.
+    NoOrder(Joined<A>, Ranking<A>, Ranking<A>),
     /// There is one, but the new plan as it is is not sound: its findings, in their order.
     NewUnsound(Vec<Finding<A>, A>),
 }
@@ -40,9 +40,9 @@ pub fn judge_order<A: Allocator + Copy>(
     ensures { IfOk result (IsRightVerdict joined.old joined.new new.now
         limits.limit limits.spare) }
 {
-    match order(alloc, joined.old, joined.new, limits)? {
+    match order(alloc, joined, limits)? {
         Switching::Ordered(order) => judge_new(alloc, order, new, limits),
-        Switching::NoOrder(plan, before, after) => Ok(OrderVerdict::NoOrder(plan, before, after)),
+        Switching::NoOrder(plans, before, after) => Ok(OrderVerdict::NoOrder(plans, before, after)),
     }
 }
 

@@ -5,10 +5,11 @@
 //! `order` finds one wherever both plans can be certified. Else it answers what is wrong with each
 //! of them. `judge_order` takes plans of any two networks, over their joined network, and
 //! `write_order` writes what it found. `stage_of` gives the plan after a stage with a certificate of
-//! the stage.
+//! the stage, and `plan_stopped` the plan in the middle of one: `read_done` reads what is switched.
 #![tactic(auto)]
 
 mod between;
+mod done;
 mod entries;
 mod fronts;
 mod joining;
@@ -23,6 +24,7 @@ mod stages;
 mod switching;
 mod transition;
 
+pub use done::{DoneFault, DoneWord, code_and_name, read_done};
 pub use judging::{OrderVerdict, judge_order};
 pub use law::{
     each_level_is_common, each_plan_is_certified, levels_lead_over, ordered_exactly,
@@ -30,5 +32,5 @@ pub use law::{
 };
 pub use orders::Order;
 pub use report::write_order;
-pub use staged::{missing_stage, stage_of};
+pub use staged::{missing_stage, plan_stopped, stage_of, stages_without};
 pub use switching::{Switching, order};

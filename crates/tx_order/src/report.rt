@@ -1,4 +1,6 @@
 // The writer of the report of an order.
+#![tactic(auto, using(tx_text::proofs::Putting::puts_none, tx_text::proofs::Putting::puts_then, tx_text::proofs::Ranges::index_more, tx_text::proofs::Ranges::indexes_done))]
+
 ghost use Rattle.std.specs.Prelude.{◌≡◌, ◌<◌, ◌+◌};
 ghost use Rattle.tx_text.specs.Puts.{Puts};
 ghost use Rattle.tx_text.specs.Wrote.{Wrote};
@@ -19,10 +21,11 @@ use tx_plantext::write_new_list;
 use tx_rank::{Finding, Ranking, write_asked, write_no};
 use tx_text::{Sink, WriteFault, finish, put_bytes, put_parts};
 
-/// Writes the report of the search for an order: what was asked, what is done before, the stages
-/// with what each switches, with the old lists, what is done after, how many lists there are, and
-/// YES, or what is wrong and NO.
+/// Writes the report of the search for an order: what was asked after a word that says which order
+/// it is, what is done before, the stages with what each switches, with the old lists, what is done
+/// after, how many lists there are, and YES, or what is wrong and NO.
 pub fn write_order<A: Allocator, W: Sink>(
+    word: &[u8],
     old: &Plan<A>,
     new: &Plan<A>,
     verdict: &OrderVerdict<A>,
@@ -30,9 +33,9 @@ pub fn write_order<A: Allocator, W: Sink>(
     sink: &mut W,
 ) -> Result<(), WriteFault>
     ensures { Wrote W.taken W.failed sink.old sink.new
-        (order_report old.now new.now limits.limit limits.spare verdict.now) result }
+        (order_report word.now old.now new.now limits.limit limits.spare verdict.now) result }
 {
-    write_asked(b"ORDER", limits, sink);
+    write_asked(word, limits, sink);
     write_before(old, new, sink);
     write_found(verdict, sink);
     write_after(old, new, sink);
@@ -57,7 +60,9 @@ fn write_verdict<A: Allocator, W: Sink>(new: &Plan<A>, verdict: &OrderVerdict<A>
 {
     match verdict {
         OrderVerdict::Ordered(_) => put_bytes(b"VERDICT YES\n", sink),
-        OrderVerdict::NoOrder(plan, before, after) => write_no_order(plan, before, after, sink),
+        OrderVerdict::NoOrder(plans, before, after) => {
+            write_no_order(&plans.old, before, after, sink)
+        }
         OrderVerdict::NewUnsound(findings) => write_verdict_after(b"NEW ", new, findings, sink),
     }
 }

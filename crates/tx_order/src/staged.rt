@@ -1,14 +1,15 @@
 // A stage of an order that is asked for.
-ghost use Rattle.std.specs.Prelude.{◌≡◌, IfOk, IfSome, IfNone};
+ghost use Rattle.std.specs.Prelude.{◌≡◌, option_map, IfOk, IfSome, IfNone};
 ghost use Rattle.tx_order.specs.Ordered.{stages_in, plan_before};
 ghost use Rattle.tx_order.specs.Staged.{IsStageOf, IsStageCert, HasStage, LacksStage};
+ghost use Rattle.tx_order.specs.Stopped.{IsStopped, target_of};
 
 use crate::judging::OrderVerdict;
-use crate::lists::lists_before;
+use crate::lists::{lists_before, lists_stopped};
 use crate::orders::Order;
 use std::alloc::Allocator;
 use tx_cert::Cert;
-use tx_plan::Plan;
+use tx_plan::{Pair, Plan};
 use tx_text::NoMemory;
 
 /// How many stages an order has that does not have the one that is asked for, by its number.
@@ -23,7 +24,7 @@ pub fn missing_stage<A: Allocator>(verdict: &OrderVerdict<A>, stage: Option<u8>)
 }
 
 /// How many stages there are, where this is none of them.
-fn stages_without<A: Allocator>(order: &Order<A>, stage: usize) -> Option<usize>
+pub fn stages_without<A: Allocator>(order: &Order<A>, stage: usize) -> Option<usize>
     ensures there { IfNone result (IsStageOf order.now stage) }
     ensures missing { IfSome result (λ stages.
         (stages ≡ stages_in order.now) × (IsStageOf order.now stage → ⊥)) }
@@ -48,5 +49,25 @@ pub fn stage_of<A: Allocator + Copy>(
     let stage = usize::from(stage);
     let lists = lists_before(alloc, &order, stage)?;
     let cert = order.cert(alloc, stage.saturating_sub(1))?;
-    Ok((order.with_lists(lists), cert))
+    let (plan, _) = order.with_lists(lists, false);
+    Ok((plan, cert))
+}
+
+/// The plan where a stage of an order is stopped, by its number: of the stage these pairs are done,
+/// or all of it. And the plan to which an order leads on or back from there.
+pub fn plan_stopped<A: Allocator + Copy>(
+    alloc: A,
+    order: Order<A>,
+    stage: u8,
+    done: Option<&[Pair]>,
+    back: bool,
+) -> Result<(Plan<A>, Plan<A>), NoMemory>
+    ensures plan { IfOk result
+        (λ made. IsStopped order stage (option_map (λ d. d.now) done.entry) made.0) }
+    ensures target { IfOk result
+        (λ made. made.1 ≡ target_of back order.transition.old order.transition.new) }
+{
+    order.rules();
+    let lists = lists_stopped(alloc, &order, usize::from(stage), done)?;
+    Ok(order.with_lists(lists, back))
 }

@@ -8,6 +8,7 @@ ghost use Rattle.tx_rank.specs.Judged.{AreOrigins};
 ghost use Rattle.tx_rank.specs.Nets.{Certifies};
 ghost use Rattle.tx_change.specs.ChangeNets.{change_net};
 ghost use Rattle.tx_order.specs.Ordered.{fronts_before, plan_before, stages_in};
+ghost use Rattle.tx_order.specs.Stopped.{target_of};
 ghost use Rattle.tx_order.specs.Transitions.{plan_front};
 
 use crate::between::rank_between;
@@ -81,13 +82,19 @@ impl<A: Allocator + Copy> Order<A> {
         Ok(cert)
     }
 
-    /// The old plan with other lists.
-    pub(crate) fn with_lists(self, lists: Lists<A>) -> Plan<A>
+    /// The old plan with other lists, and the plan to which an order leads on or back from there.
+    pub(crate) fn with_lists(self, lists: Lists<A>, back: bool) -> (Plan<A>, Plan<A>)
         requires { IsPlan (rerouted self.transition.old lists.routes lists.bars) }
-        ensures { result ≡ rerouted self.transition.old lists.routes lists.bars }
+        ensures plan { result.0 ≡ rerouted self.transition.old lists.routes lists.bars }
+        ensures target { result.1 ≡ target_of back self.transition.old self.transition.new }
     {
+        self.rules();
         let Order { transition, .. } = self;
-        let Transition { old, .. } = transition;
-        old.rerouted(lists.routes, lists.bars)
+        let Transition { old, new, .. } = transition;
+        if back {
+            (new.rerouted(lists.routes, lists.bars), old)
+        } else {
+            (old.rerouted(lists.routes, lists.bars), new)
+        }
     }
 }

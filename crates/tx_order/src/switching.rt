@@ -4,7 +4,7 @@ ghost use Rattle.tx_plan.specs.Mixtures.{SameNetwork};
 ghost use Rattle.tx_audit.specs.Audits.{IsRightRanking};
 ghost use Rattle.tx_order.specs.Orders.{CanBothBeCertified};
 ghost use Rattle.tx_order.specs.Ordered.{stages_in, AreStagesBelow, IsOrderKept};
-ghost use Rattle.tx_order.specs.Switchings.{HasCleared, IsOrderFound, IsRightSwitching};
+ghost use Rattle.tx_order.specs.Switchings.{HasCleared, IsOrderFound, IsRightSwitching, plans_of};
 ghost use Rattle.tx_order.specs.inner.Asked.{IsAsked};
 
 use crate::fronts::Fronts;
@@ -17,6 +17,7 @@ use tx_audit::judge;
 use tx_cert::Cert;
 use tx_change::Lists;
 use tx_check::confirm;
+use tx_join::Joined;
 use tx_plan::{CodeId, Limits, Plan};
 use tx_rank::{Ranking, origins_of};
 use tx_text::NoMemory;
@@ -26,9 +27,22 @@ use tx_text::NoMemory;
 pub enum Switching<A: Allocator = Global> {
     /// An order.
     Ordered(Order<A>),
-    /// There is none: the old plan, and what its ranking came to and that of the new one. One of
-    /// them has findings.
-    NoOrder(Plan<A>, Ranking<A>, Ranking<A>),
+    /// There is none: both plans, and what the ranking of the old one came to and that of the new
+    /// one. One of them has findings.
+    NoOrder(Joined<A>, Ranking<A>, Ranking<A>),
+}
+
+impl<A: Allocator> Switching<A> {
+    /// The old plan and the new one.
+    pub fn plans(&self) -> (&Plan<A>, &Plan<A>)
+        ensures old { result.0.now ≡ (plans_of self.now).old }
+        ensures new { result.1.now ≡ (plans_of self.now).new }
+    {
+        match self {
+            Switching::Ordered(order) => (order.old_plan(), order.new_plan()),
+            Switching::NoOrder(plans, _, _) => (&plans.old, &plans.new),
+        }
+    }
 }
 
 /// The stages of each code.
@@ -134,42 +148,28 @@ fn order_of<A: Allocator + Copy>(alloc: A, transition: Transition<A>) -> Result<
     Ok(order)
 }
 
-/// The judgements on both plans.
-fn judge_both<A: Allocator + Copy>(
-    alloc: A,
-    old: &Plan<A>,
-    new: &Plan<A>,
-    limits: Limits,
-) -> Result<(Ranking<A>, Ranking<A>), NoMemory>
-    ensures old { IfOk result (λ r. IsRightRanking old.now limits.limit limits.spare r.0) }
-    ensures new { IfOk result (λ r. IsRightRanking new.now limits.limit limits.spare r.1) }
-{
-    let before = judge(alloc, old, limits)?;
-    let after = judge(alloc, new, limits)?;
-    Ok((before, after))
-}
-
 /// What the search comes to by the judgements on both plans.
 fn order_by<A: Allocator + Copy>(
     alloc: A,
-    old: Plan<A>,
-    new: Plan<A>,
+    plans: Joined<A>,
     before: Ranking<A>,
     after: Ranking<A>,
     limits: Limits,
 ) -> Result<Switching<A>, NoMemory>
-    requires network { SameNetwork old new }
-    requires before { IsRightRanking old limits.limit limits.spare before }
-    requires after { IsRightRanking new limits.limit limits.spare after }
+    requires network { SameNetwork plans.old plans.new }
+    requires before { IsRightRanking plans.old limits.limit limits.spare before }
+    requires after { IsRightRanking plans.new limits.limit limits.spare after }
     ensures exactly { IfOk result (λ s. IsOrderFound s
-        ↔ CanBothBeCertified old new limits.limit limits.spare) }
-    ensures right { IfOk result (IsRightSwitching old new limits.limit limits.spare) }
+        ↔ CanBothBeCertified plans.old plans.new limits.limit limits.spare) }
+    ensures right { IfOk result
+        (IsRightSwitching plans.old plans.new limits.limit limits.spare) }
 {
-    old.rules();
-    new.rules();
+    plans.old.rules();
+    plans.new.rules();
     match before {
         Ranking::Found(before) => match after {
             Ranking::Found(after) => {
+                let Joined { old, new } = plans;
                 let transition = Transition {
                     old,
                     new,
@@ -179,15 +179,9 @@ fn order_by<A: Allocator + Copy>(
                 };
                 Ok(Switching::Ordered(order_of(alloc, transition)?))
             }
-            after => {
-                drop(new);
-                Ok(Switching::NoOrder(old, Ranking::Found(before), after))
-            }
+            after => Ok(Switching::NoOrder(plans, Ranking::Found(before), after)),
         },
-        before => {
-            drop(new);
-            Ok(Switching::NoOrder(old, before, after))
-        }
+        before => Ok(Switching::NoOrder(plans, before, after)),
     }
 }
 
@@ -197,23 +191,18 @@ fn order_by<A: Allocator + Copy>(
 /// stage. Else it says what is wrong with both plans. `Err` means out of memory.
 pub fn order<A: Allocator + Copy>(
     alloc: A,
-    old: Plan<A>,
-    new: Plan<A>,
+    plans: Joined<A>,
     limits: Limits,
 ) -> Result<Switching<A>, NoMemory>
-    requires network { SameNetwork old new }
+    requires network { SameNetwork plans.old plans.new }
 
     // An order is found exactly where some ranks certify the old plan and some the new one.
     ensures exactly { IfOk result (λ s. IsOrderFound s
-        ↔ CanBothBeCertified old new limits.limit limits.spare) }
-    ensures right { IfOk result (IsRightSwitching old new limits.limit limits.spare) }
+        ↔ CanBothBeCertified plans.old plans.new limits.limit limits.spare) }
+    ensures right { IfOk result
+        (IsRightSwitching plans.old plans.new limits.limit limits.spare) }
 {
-    match judge_both(alloc, &old, &new, limits) {
-        Ok((before, after)) => order_by(alloc, old, new, before, after, limits),
-        Err(fault) => {
-            drop(old);
-            drop(new);
-            Err(fault)
-        }
-    }
+    let before = judge(alloc, &plans.old, limits)?;
+    let after = judge(alloc, &plans.new, limits)?;
+    order_by(alloc, plans, before, after, limits)
 }

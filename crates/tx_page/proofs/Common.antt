@@ -1,19 +1,10 @@
 -- The names that most proofs here cite, passed on from one place. Declares nothing.
-pub use Rattle.std.proofs.Common.{Bool, ap, arith, length, not, refl, sym, take, ◌&&◌, ◌*◌, ◌+◌, ◌<◌, ◌∙◌, ◌≡◌, ◌≤◌}
-pub use Rattle.std.proofs.lemmas.List.{take_all}
-pub use Rattle.std.specs.List.{flat_map, range_with_len}
-pub use Rattle.std.specs.Prelude.{count_by, if◌then◌else◌, sum_by}
-pub use Rattle.tx_html.proofs.Showing.{list_done, list_more, sets_end, sets_is, sets_none, sets_then}
+pub use Rattle.std.proofs.Common.{ap, take, ◌∙◌}
+pub use Rattle.std.specs.List.{flat_map}
+pub use Rattle.tx_html.proofs.Showing.{sets_end, sets_then}
 pub use Rattle.tx_html.specs.Shows.{Sets}
-pub use Rattle.tx_join.proofs.Sums.{sum_more}
-pub use Rattle.tx_page.specs.ChangeTexts.{pair_texts, stage_texts}
 pub use Rattle.tx_page.specs.CodeTexts.{code_texts}
-pub use Rattle.tx_page.specs.Heading.{code_lines, range_lines}
 pub use Rattle.tx_page.specs.NetworkTexts.{exchange_texts, group_texts, home_texts}
 pub use Rattle.tx_page.specs.OutageTexts.{cut_texts, shown_texts}
-pub use Rattle.tx_page.specs.StepTexts.{group_circuits_texts, if_alone_texts}
 pub use Rattle.tx_page.specs.WrongTexts.{finding_texts}
-pub use Rattle.tx_page.specs.inner.Between.{after_of, before_of}
-pub use Rattle.tx_plan.specs.Routes.{is_barred, is_origin, route_list}
-pub use Rattle.tx_svg.proofs.Indexed.{below_done, below_more}
 pub use Rattle.tx_svg.specs.Indexed.{texts_below}

@@ -1,3 +1,2 @@
 pub mod StepsOfWalks
-pub mod AloneIn
 pub mod Common

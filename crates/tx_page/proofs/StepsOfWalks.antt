@@ -1,10 +1,10 @@
 -- The steps of a walk, shown one after another.
-use Rattle.std.proofs.Common.{◌≡◌, ℕ, ◌+◌, ◌<◌, ◌≤◌, List, [], ◌∷◌, ◌++◌, length, drop, get_or, refl, sym, ap, ◌∙◌, append_assoc}
+use Rattle.std.proofs.Common.{◌≡◌, ℕ, ◌+◌, ◌<◌, ◌≤◌, List, [], ◌∷◌, ◌++◌, length, drop, get_or, sym, ap, ◌∙◌, append_assoc}
 use Rattle.std.proofs.lemmas.List.{at_drop_more, drop_all}
 use Rattle.tx_plan.specs.Plan.{Plan, exchange_name}
 use Rattle.tx_html.specs.Shows.{Seen, Sets}
 use Rattle.tx_page.specs.WrongTexts.{step_texts, steps_texts}
-use Rattle.tx_html.proofs.Showing.{sets_none, sets_then, sets_is}
+use Rattle.tx_html.proofs.Showing.{sets_then, sets_is}
 
 -- what stands before the steps that are left was set, up to the exchange `at`
 pub record StepsSet {W : Type 0} (seen : W → Seen) (p : Plan) (c start : ℕ) (steps : List (ℕ × ℕ)) (at i : ℕ) (a b : W) : Type 0 where
@@ -13,9 +13,6 @@ pub record StepsSet {W : Type 0} (seen : W → Seen) (p : Plan) (c start : ℕ) 
   pub left : front ++ steps_texts p c at (drop i steps) ≡ steps_texts p c start steps
 
 module _ {W : Type 0} {seen : W → Seen} {p : Plan} {c start : ℕ} {steps : List (ℕ × ℕ)} where
-  pub no_step_set : {a : W} → StepsSet seen p c start steps start 0 a a
-  no_step_set = record { front = []; sets = sets_none; left = refl }
-
   pub step_set : {at i : ℕ} {s : ℕ × ℕ} {a b d : W} → i < length steps → s ≡ get_or steps i s
       → StepsSet seen p c start steps at i a b → Sets seen b d (step_texts p c at s.0) → StepsSet seen p c start steps s.1 (i + 1) a d
   step_set {at} {i} {s} low is v w =

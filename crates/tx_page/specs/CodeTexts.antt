@@ -4,7 +4,7 @@ use Rattle.std.specs.List.{flat_map}
 use Rattle.tx_html.specs.Amounts.{amount}
 use Rattle.tx_plan.specs.Plan.{Plan, exchange_name, figures_of, home_of}
 use Rattle.tx_rank.specs.declared.bounds.Bounds.{Bounds}
-use Rattle.tx_page.specs.Heading.{lines_of}
+use Rattle.tx_page_change.specs.Counts.{lines_of}
 
 -- the least limit, the greatest spare number, and how many groups a way has at the most; or that
 -- there is no grade

@@ -1,12 +1,9 @@
 -- What a page shows of what was judged, and of the verdict.
-use Rattle.std.specs.Prelude.{ℕ, Bool, true, false, ◌+◌, ◌-◌, ◌==◌, if◌then◌else◌, List, [], ◌∷◌, ◌++◌, length, map, codes, decimal, count_by, sum_by}
-use Rattle.std.specs.List.{range_with_len}
-use Rattle.std.specs.Str.Parse.{digits_value}
+use Rattle.std.specs.Prelude.{ℕ, Bool, true, false, ◌==◌, if◌then◌else◌, List, [], ◌∷◌, ◌++◌, length, map, codes, decimal}
 use Rattle.hex.specs.Hex.{encode_lower}
 use Rattle.tx_html.specs.Amounts.{amount}
 use Rattle.tx_plan.specs.Plan.{Plan}
-use Rattle.tx_plan.specs.Routes.{is_origin}
-use Rattle.tx_plan.specs.declared.range.LineRange.{LineRange}
+use Rattle.tx_page_change.specs.Counts.{lines_in, origins_in}
 
 abbrev pub verdict_word : (safe : Bool) → List ℕ
 verdict_word true = codes "YES"
@@ -24,26 +21,6 @@ verdict_texts safe limit spare = verdict_word safe ∷ decimal limit ∷ decimal
 abbrev pub promise_texts : Bool → (limit spare : ℕ) → List (List ℕ)
 promise_texts true limit spare = decimal limit ∷ decimal spare ∷ []
 promise_texts false limit spare = []
-
--- how many lines a range has
-abbrev pub range_lines : LineRange → ℕ
-range_lines r = (digits_value 10 r.high - digits_value 10 r.low) + 1
-
--- how many lines a range adds to those of a code
-abbrev pub code_lines : ℕ → LineRange → ℕ
-code_lines c r = if r.code == c then range_lines r else 0
-
--- how many lines a code has
-abbrev pub lines_of : Plan → ℕ → ℕ
-lines_of p c = sum_by (code_lines c) p.ranges
-
--- how many lines a plan has
-abbrev pub lines_in : Plan → ℕ
-lines_in p = sum_by range_lines p.ranges
-
--- at how many exchanges calls start
-abbrev pub origins_in : Plan → ℕ
-origins_in p = count_by (is_origin p) (range_with_len 0 (length p.exchanges))
 
 -- exchanges, codes, groups, lists, lines, and exchanges where calls start
 abbrev pub count_texts : Plan → List (List ℕ)

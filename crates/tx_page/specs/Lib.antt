@@ -4,6 +4,4 @@ pub mod CodeTexts
 pub mod OutageTexts
 pub mod NetworkTexts
 pub mod Page
-pub mod ChangeTexts
-pub mod StepTexts
-pub mod inner
+pub mod Decision

@@ -3,12 +3,12 @@ ghost use Rattle.std.specs.Prelude.{[], ◌∷◌};
 ghost use Rattle.tx_plan.specs.Plan.{exchange_name, figures_of, home_of};
 ghost use Rattle.tx_html.specs.Amounts.{amount};
 ghost use Rattle.tx_html.specs.Shows.{Sets};
-ghost use Rattle.tx_page.specs.Heading.{lines_of};
+ghost use Rattle.tx_page_change.specs.Counts.{lines_of};
 ghost use Rattle.tx_page.specs.CodeTexts.{bounds_texts, code_texts, codes_texts};
 
-use crate::counts::lines_of;
 use std::alloc::Allocator;
 use tx_html::{PageSink, Part, set};
+use tx_page_change::lines_of;
 use tx_plan::{CodeId, Plan};
 use tx_rank::{Bounds, Grade};
 use tx_svg::Picture;

@@ -4,11 +4,11 @@ ghost use Rattle.hex.specs.Hex.{encode_lower};
 ghost use Rattle.tx_html.specs.Shows.{Sets};
 ghost use Rattle.tx_page.specs.Heading.{verdict_word, start_texts, verdict_texts, promise_texts, warning_texts, count_texts, digest_texts, heading_texts};
 
-use crate::counts::{count_lines, count_origins};
 use crate::style::STYLE;
 use hex::encode_to_slice;
 use std::alloc::Allocator;
 use tx_html::{PageSink, Part, set};
+use tx_page_change::{count_lines, count_origins};
 use tx_plan::{Limits, Plan};
 use tx_svg::HEADS;
 
@@ -32,12 +32,12 @@ pub fn write_heading<A: Allocator, W: PageSink>(
     write_counts(plan, sink);
     write_warning(count_lines(plan), sink);
     write_digest(digest, version, sink);
-    write_verdict(safe, limits, sink);
+    write_verdict(if safe { "yes" } else { "no" }, safe, limits, sink);
     write_promise(safe, limits, sink);
 }
 
 /// Writes that a YES says nothing, if there is no line.
-fn write_warning<W: PageSink>(lines: u64, sink: &mut W)
+pub(crate) fn write_warning<W: PageSink>(lines: u64, sink: &mut W)
     ensures { Sets W.seen sink.old sink.new (warning_texts lines) }
 {
     if lines > 0 {
@@ -60,7 +60,7 @@ fn verdict_word(safe: bool) -> &'static [u8]
     if safe { b"YES" } else { b"NO" }
 }
 
-fn write_start<W: PageSink>(name: &[u8], safe: bool, sink: &mut W)
+pub(crate) fn write_start<W: PageSink>(name: &[u8], safe: bool, sink: &mut W)
     ensures { Sets W.seen sink.old sink.new (start_texts name.now safe) }
 {
     set(
@@ -81,14 +81,20 @@ fn write_start<W: PageSink>(name: &[u8], safe: bool, sink: &mut W)
     );
 }
 
-fn write_verdict<W: PageSink>(safe: bool, limits: Limits, sink: &mut W)
+/// Writes the verdict, and the numbers for which it was asked.
+pub(crate) fn write_verdict<W: PageSink>(
+    class: &'static str,
+    safe: bool,
+    limits: Limits,
+    sink: &mut W,
+)
     ensures { Sets W.seen sink.old sink.new
         (verdict_texts safe limits.limit limits.spare) }
 {
     set(
         &[
             Part::Own("<p class=\"v "),
-            Part::Own(if safe { "yes" } else { "no" }),
+            Part::Own(class),
             Part::Own("\"><strong>"),
             Part::Text(verdict_word(safe)),
             Part::Own("</strong> transit limit <b>"),
@@ -102,7 +108,7 @@ fn write_verdict<W: PageSink>(safe: bool, limits: Limits, sink: &mut W)
 }
 
 /// Writes in a sentence what the verdict says.
-fn write_promise<W: PageSink>(safe: bool, limits: Limits, sink: &mut W)
+pub(crate) fn write_promise<W: PageSink>(safe: bool, limits: Limits, sink: &mut W)
     ensures { Sets W.seen sink.old sink.new
         (promise_texts safe limits.limit limits.spare) }
 {
@@ -159,32 +165,26 @@ fn write_counts<A: Allocator, W: PageSink>(plan: &Plan<A>, sink: &mut W)
 fn write_digest<W: PageSink>(digest: &[u8; 32], version: &'static str, sink: &mut W)
     ensures { Sets W.seen sink.old sink.new (digest_texts digest.now version.now) }
 {
-    write_figures(digest, sink);
-    write_version(version, sink);
+    write_figures("<p class=\"m\">SHA-256 of the plan <code>", digest, sink);
+    write_version("</code><br>judged by telexplan ", version, sink);
 }
 
-fn write_figures<W: PageSink>(digest: &[u8; 32], sink: &mut W)
+pub(crate) fn write_figures<W: PageSink>(label: &'static str, digest: &[u8; 32], sink: &mut W)
     ensures { Sets W.seen sink.old sink.new (encode_lower digest.now ∷ []) }
 {
     let mut figures = [0u8; 64];
     if encode_to_slice(digest.as_slice(), figures.as_mut_slice()).is_err() {
         unreachable!();
     }
-    set(
-        &[
-            Part::Own("<p class=\"m\">SHA-256 of the plan <code>"),
-            Part::Text(&figures),
-        ],
-        sink,
-    );
+    set(&[Part::Own(label), Part::Text(&figures)], sink);
 }
 
-fn write_version<W: PageSink>(version: &'static str, sink: &mut W)
+pub(crate) fn write_version<W: PageSink>(label: &'static str, version: &'static str, sink: &mut W)
     ensures { Sets W.seen sink.old sink.new (version.now ∷ []) }
 {
     set(
         &[
-            Part::Own("</code><br>judged by telexplan "),
+            Part::Own(label),
             Part::Text(version.as_bytes()),
             Part::Own("</p>"),
         ],

@@ -1,9 +1,10 @@
 // What outages cut off.
-ghost use Rattle.std.specs.Prelude.{◌≡◌, count_by};
+ghost use Rattle.std.specs.Prelude.{◌≡◌, length, count_by};
 ghost use Rattle.std.specs.List.{flat_map};
 ghost use Rattle.tx_html.specs.Shows.{Sets};
+ghost use Rattle.tx_svg.specs.Indexed.{texts_below};
 ghost use Rattle.tx_risk_report.specs.OutageReport.{is_harmless};
-ghost use Rattle.tx_page.specs.OutageTexts.{outage_kind, outage_name, cut_texts, outcome_texts, shown_texts, total_texts, tried_texts, outages_texts};
+ghost use Rattle.tx_page.specs.OutageTexts.{outage_kind, outage_name, unknown_texts, cut_texts, outcome_texts, shown_texts, total_texts, tried_texts, outages_texts};
 
 use std::alloc::Allocator;
 use tx_html::{PageSink, Part, set};
@@ -41,6 +42,7 @@ fn write_graded<A: Allocator, W: PageSink>(
         (tried_texts plan.now risks.now outcomes.now) }
 {
     write_tried(outcomes, sink);
+    write_unknown(risks, sink);
     write_outcomes(plan, risks, outcomes, sink);
 }
 
@@ -51,6 +53,8 @@ that cut nobody off and lead nobody astray: ";
 const OTHERS: &str = ". Below are the others. Cut off: no way home is left from where calls start. \
 Astray: one is left, and also one to an exchange that has no group left. Calls that start at an exchange \
 that fails, and calls for codes at home there, are not counted.</p>";
+
+const PARTLY: &str = "</b> names groups that the plan has not.</p>";
 
 const UNGRADED: &str = "<h2>Outages</h2><p>The plan has no grade: it is safe for no limit and no \
 spare number. So no outage was tried.</p>";
@@ -80,6 +84,32 @@ fn count_harmless<A: Allocator>(outcomes: &[Outcome<A>]) -> usize
         .count()
 }
 
+/// Writes each risk that names groups which the plan has not.
+fn write_unknown<A: Allocator, W: PageSink>(risks: &Risks<A>, sink: &mut W)
+    ensures { Sets W.seen sink.old sink.new
+        (texts_below (length risks.now) (unknown_texts risks.now)) }
+{
+    for index in 0..risks.len() {
+        write_unknown_risk(risks, index, sink);
+    }
+}
+
+fn write_unknown_risk<A: Allocator, W: PageSink>(risks: &Risks<A>, index: usize, sink: &mut W)
+    ensures { Sets W.seen sink.old sink.new (unknown_texts risks.now index) }
+{
+    if risks.has_unknown(index) {
+        let name = risks.name(index);
+        set(
+            &[
+                Part::Own("<p>Risk <b>"),
+                Part::Text(name),
+                Part::Own(PARTLY),
+            ],
+            sink,
+        );
+    }
+}
+
 /// Writes each outcome that is shown.
 fn write_outcomes<A: Allocator, W: PageSink>(
     plan: &Plan<A>,
@@ -96,7 +126,7 @@ fn write_outcomes<A: Allocator, W: PageSink>(
 }
 
 /// What kind of thing fails.
-fn kind_of(outage: &Outage) -> &'static [u8]
+pub(crate) fn kind_of(outage: &Outage) -> &'static [u8]
     ensures { result.now ≡ outage_kind outage.now }
 {
     match outage {
@@ -107,7 +137,11 @@ fn kind_of(outage: &Outage) -> &'static [u8]
 }
 
 /// The name of what fails.
-fn name_of<'a, A: Allocator>(plan: &'a Plan<A>, risks: &'a Risks<A>, outage: &Outage) -> &'a [u8]
+pub(crate) fn name_of<'a, A: Allocator>(
+    plan: &'a Plan<A>,
+    risks: &'a Risks<A>,
+    outage: &Outage,
+) -> &'a [u8]
     ensures { result.now ≡ outage_name plan.now risks.now outage.now }
 {
     match outage {
@@ -161,7 +195,7 @@ fn write_outcome<'a, A: Allocator, W: PageSink>(
 }
 
 /// Writes the cuts of an outage.
-fn write_cuts<A: Allocator, W: PageSink>(plan: &Plan<A>, cuts: &[Cut<A>], sink: &mut W)
+fn write_cuts<A: Allocator, W: PageSink>(plan: &Plan<A>, cuts: &[Cut], sink: &mut W)
     ensures { Sets W.seen sink.old sink.new
         (flat_map (cut_texts plan.now) cuts.now) }
 {
@@ -170,7 +204,7 @@ fn write_cuts<A: Allocator, W: PageSink>(plan: &Plan<A>, cuts: &[Cut<A>], sink: 
     }
 }
 
-fn write_cut<A: Allocator, W: PageSink>(plan: &Plan<A>, cut: &Cut<A>, sink: &mut W)
+fn write_cut<A: Allocator, W: PageSink>(plan: &Plan<A>, cut: &Cut, sink: &mut W)
     ensures { Sets W.seen sink.old sink.new (cut_texts plan.now cut.now) }
 {
     set(
@@ -182,7 +216,7 @@ fn write_cut<A: Allocator, W: PageSink>(plan: &Plan<A>, cut: &Cut<A>, sink: &mut
             }),
             Part::Text(plan.code_figures(cut.code)),
             Part::Own(" from "),
-            Part::Text(plan.exchange_name(cut.walk.start)),
+            Part::Text(plan.exchange_name(cut.start)),
             Part::Own(" "),
             Part::Text(if cut.stray { b"astray" } else { b"cut off" }),
             Part::Own("</li>"),

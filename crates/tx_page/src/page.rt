@@ -1,10 +1,10 @@
 // A page.
 ghost use Rattle.std.specs.Prelude.{◌≡◌};
 ghost use Rattle.tx_html.specs.Shows.{Sets, Showed};
-ghost use Rattle.tx_page.specs.Page.{is_safe, asked_change_texts, page_texts};
+ghost use Rattle.tx_page.specs.Page.{is_safe, down_texts, first_texts, asked_change_texts, page_texts};
 
-use crate::change::{Change, write_change};
 use crate::codes::write_codes;
+use crate::decision::write_decision;
 use crate::findings::write_wrong;
 use crate::heading::write_heading;
 use crate::network::write_network;
@@ -12,9 +12,16 @@ use crate::outages::write_outages;
 use crate::subject::Subject;
 use std::alloc::Allocator;
 use tx_html::{PageSink, Part, set};
+use tx_page_change::{Change, write_change, write_crews};
 use tx_rank::{Finding, Ranking};
 use tx_svg::write_pictures;
 use tx_text::WriteFault;
+
+const GROUPS_DOWN: &str = "<p class=\"warn\">All this is said of the plan while these groups are \
+                           down: <b>";
+
+const EXCHANGE_DOWN: &str = "<p class=\"warn\">All this is said of the plan while all groups of \
+                             this exchange are down: <b>";
 
 /// Whether a certificate was found.
 pub fn is_safe<A: Allocator>(ranking: &Ranking<A>) -> bool
@@ -34,7 +41,25 @@ fn findings_in<A: Allocator>(ranking: &Ranking<A>) -> &[Finding<A>] {
     }
 }
 
-/// Writes the change of an old plan, if one is asked for.
+/// Writes what was judged, and the verdict: of the plan, or of the change from an old one.
+fn write_first<A: Allocator, W: PageSink>(subject: &Subject<'_, A>, safe: bool, sink: &mut W)
+    ensures { Sets W.seen sink.old sink.new (first_texts subject.now safe subject.now.change) }
+{
+    match &subject.change {
+        Some(change) => write_decision(subject, change, safe, sink),
+        None => write_heading(
+            subject.name,
+            &subject.digest,
+            subject.version,
+            subject.plan,
+            subject.limits,
+            safe,
+            sink,
+        ),
+    }
+}
+
+/// Writes the change of an old plan, if one is asked for, and the work at each exchange.
 fn write_asked_change<A: Allocator, W: PageSink>(
     change: &Option<Change<'_, A>>,
     safe: bool,
@@ -43,8 +68,23 @@ fn write_asked_change<A: Allocator, W: PageSink>(
     ensures { Sets W.seen sink.old sink.new (asked_change_texts safe change.now) }
 {
     match change {
-        Some(change) => write_change(change, safe, sink),
+        Some(change) => {
+            write_change(change, safe, sink);
+            write_crews(change, safe, sink);
+        }
         None => {}
+    }
+}
+
+/// Writes what is down, in the words that ask for it, if there are some.
+fn write_down<W: PageSink>(what: &'static str, word: Option<&[u8]>, sink: &mut W)
+    ensures { Sets W.seen sink.old sink.new (down_texts word.entry) }
+{
+    if let Some(word) = word {
+        set(
+            &[Part::Own(what), Part::Text(word), Part::Own("</b></p>")],
+            sink,
+        );
     }
 }
 
@@ -60,15 +100,9 @@ pub fn write_page<A: Allocator, W: PageSink>(
     let safe = is_safe(subject.ranking);
     let graded = subject.grade.plan.is_some();
     let findings = findings_in(subject.ranking);
-    write_heading(
-        subject.name,
-        &subject.digest,
-        subject.version,
-        plan,
-        limits,
-        safe,
-        sink,
-    );
+    write_first(subject, safe, sink);
+    write_down(GROUPS_DOWN, subject.down, sink);
+    write_down(EXCHANGE_DOWN, subject.down_exchange, sink);
     write_wrong(plan, subject.ranking, limits, sink);
     write_asked_change(&subject.change, safe, sink);
     write_codes(plan, subject.grade, subject.pictures, sink);

@@ -13,6 +13,7 @@ a{color:var(--first)}
 .v{font-size:1.15rem;margin:.4rem 0 1rem}
 .v strong{font-size:1.7rem;padding:.15rem .9rem;margin-right:.5rem;border-radius:.4rem;color:var(--on);background:var(--good);vertical-align:-.1em}
 .no strong{background:var(--bad)}
+.but strong{background:var(--second)}
 .warn{color:var(--bad);font-weight:600}
 .m{color:var(--soft)}
 code{font:.85em/1.5 ui-monospace,DejaVu Sans Mono,monospace;overflow-wrap:anywhere}
@@ -55,5 +56,5 @@ path{fill:none}
 .s{color:var(--second)}
 .stage{margin-top:1.2rem}
 .b table{display:none}
-@media print{@page{size:A4;margin:12mm}body{font-size:10pt;background:none}main{padding:0;max-width:none}.t{display:block;overflow:visible}table+table{margin-top:1rem}tr,.f>li,.w li,.p{break-inside:avoid}thead{display:table-header-group}details{padding:0;border:0;background:none}details::details-content{content-visibility:visible;display:block}svg{max-height:250mm}.b svg{display:none}.b table{display:table}summary{list-style:none}h2,h3,summary{break-after:avoid}.stage,.stage+h2{break-before:page}}
+@media print{@page{size:A4;margin:12mm}body{font-size:10pt;background:none}main{padding:0;max-width:none}.t{display:block;overflow:visible}table+table{margin-top:1rem}tr,.f>li,.w li,.p{break-inside:avoid}thead{display:table-header-group}details{padding:0;border:0;background:none}details::details-content{content-visibility:visible;display:block}svg{max-height:250mm}.b svg{display:none}.b table{display:table}summary{list-style:none}h2,h3,summary{break-after:avoid}.stage,.stage+h2,.d~h2:first-of-type,.crews,.crew:not(:empty)~.crew:not(:empty){break-before:page}}
 ";

@@ -1,6 +1,6 @@
 // What a page is about.
-use crate::change::Change;
 use std::alloc::Allocator;
+use tx_page_change::Change;
 use tx_plan::{Limits, Plan};
 use tx_rank::{Grade, Ranking};
 use tx_risk::{Outcome, Risks};
@@ -16,6 +16,9 @@ pub struct Subject<'a, A: Allocator> {
     pub version: &'static str,
     pub plan: &'a Plan<A>,
     pub limits: Limits,
+    /// The words for groups that are down, and for an exchange of which all groups are.
+    pub down: Option<&'a [u8]>,
+    pub down_exchange: Option<&'a [u8]>,
     /// A certificate to which the checker said Yes, or what is wrong.
     pub ranking: &'a Ranking<A>,
     pub grade: &'a Grade<A>,

@@ -22,8 +22,7 @@ pub use Rattle.tx_plantext.specs.ChangedLists.{change_line, code_changes}
 pub use Rattle.tx_plantext.specs.PlanText.{unless}
 pub use Rattle.tx_plantext.specs.PlanWritten.{bar_words, code_words, direction_word, exchange_words, group_words, lines_of_list, range_words, route_words}
 pub use Rattle.tx_plantext.specs.Revised.{SameLinesStand, StandAmong, says_too}
-pub use Rattle.tx_text.proofs.Putting.{puts_is, puts_none, puts_then}
-pub use Rattle.tx_text.proofs.Ranges.{index_more, indexes_done}
+pub use Rattle.tx_text.proofs.Putting.{puts_is, puts_then}
 pub use Rattle.tx_text.proofs.WrittenWords.{IsShortWord, figures_word, fixed_word, line_of_short, name_word}
 pub use Rattle.tx_text.specs.Puts.{Puts}
 pub use Rattle.tx_text.specs.Words.{is_name}

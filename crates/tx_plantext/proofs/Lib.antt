@@ -5,6 +5,7 @@ pub mod Indexes
 pub mod PlanLines
 pub mod PlanWriting
 pub mod RouteLines
+pub mod Texts
 pub mod Written
 mod Alike
 mod AmongLines

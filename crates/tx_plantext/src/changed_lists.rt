@@ -1,4 +1,6 @@
 // The writers of lists that are other ones than before.
+#![tactic(auto, using(crate::proofs::Texts::putting))]
+
 ghost use Rattle.std.specs.Prelude.{◌<◌, ◌++◌, codes};
 ghost use Rattle.tx_text.specs.Puts.{Puts};
 ghost use Rattle.tx_plan.specs.Routes.{route_list};

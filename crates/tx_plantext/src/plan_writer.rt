@@ -1,4 +1,6 @@
 // The writer of plan texts.
+#![tactic(auto, using(crate::proofs::Texts::putting))]
+
 ghost use Rattle.std.specs.Prelude.{codes, decimal, ◌++◌};
 ghost use Rattle.std.specs.List.{flat_map};
 ghost use Rattle.tx_text.specs.Written.{line_written};

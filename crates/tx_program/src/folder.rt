@@ -2,8 +2,9 @@
 use crate::draft::Draft;
 use crate::file_id::id_of;
 use std::fs::File;
-use std::io;
 use std::io::{Read, Write};
+use std::time::{SystemTime, UNIX_EPOCH};
+use std::{env, io};
 use tx_commands::FileId;
 
 /// Where files are found by their names.
@@ -29,6 +30,24 @@ pub trait Folder {
 
     /// Gives the file up. What has its name stays.
     fn give_up(&self, file: Self::Output);
+
+    /// What the clock there says, in seconds since 1970, if it says anything.
+    fn moment(&self) -> Option<u64>;
+}
+
+/// What stands in for the clock, so that a page can be made anew byte for byte: the moment in the
+/// variable that programs agree on for that.
+fn moment_given(rt: &HostRuntime) -> Option<u64> {
+    match env::var(rt, "SOURCE_DATE_EPOCH") {
+        Ok(moment) => moment.parse().ok(),
+        Err(_) => None,
+    }
+}
+
+/// What the clock of the machine says.
+fn moment_now(rt: &HostRuntime) -> Option<u64> {
+    let now = SystemTime::now(rt).ok()?;
+    Some(now.duration_since(UNIX_EPOCH).ok()?.as_secs())
 }
 
 /// The files of the machine.
@@ -55,5 +74,9 @@ impl Folder for HostRuntime {
 
     fn give_up(&self, file: Draft) {
         file.give_up(self);
+    }
+
+    fn moment(&self) -> Option<u64> {
+        moment_given(self).or(moment_now(self))
     }
 }

@@ -10,6 +10,7 @@ pub(crate) enum TextKind {
     Cert,
     Script,
     Risks,
+    Done,
     Page,
 }
 
@@ -22,11 +23,12 @@ pub(crate) const MADE: [TextKind; 4] = [
 ];
 
 /// The kinds that a header shows.
-const KINDS: [TextKind; 4] = [
+const KINDS: [TextKind; 5] = [
     TextKind::Plan,
     TextKind::Cert,
     TextKind::Script,
     TextKind::Risks,
+    TextKind::Done,
 ];
 
 impl TextKind {
@@ -37,6 +39,7 @@ impl TextKind {
             TextKind::Cert => b"CERT",
             TextKind::Script => b"SCRIPT",
             TextKind::Risks => b"RISKS",
+            TextKind::Done => b"DONE",
             TextKind::Page => b"",
         }
     }
@@ -48,6 +51,7 @@ impl TextKind {
             TextKind::Cert => "certificate",
             TextKind::Script => "script",
             TextKind::Risks => "text of risks",
+            TextKind::Done => "text of what is done",
             TextKind::Page => "page",
         }
     }

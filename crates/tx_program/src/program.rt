@@ -50,8 +50,18 @@ pub fn run_words<
         announce_input(&mut ends.errors);
     }
     match read_command(alloc, words) {
-        Ok(command) => run_command(memory, &command, ends),
+        Ok(mut command) => {
+            set_moment(&mut command, ends.folder);
+            run_command(memory, &command, ends)
+        }
         Err(fault) => refuse_words(&fault, ends),
+    }
+}
+
+/// Tells a command that shows when it was done what the clock says.
+fn set_moment<F: Folder>(command: &mut Command, folder: &F) {
+    if let Command::Page(request) = command {
+        request.moment = folder.moment();
     }
 }
 

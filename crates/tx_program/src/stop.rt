@@ -11,6 +11,7 @@ use tx_commands::{Command, FillRequest, Place, STANDARD_INPUT, ThroughRequest, T
 use tx_files::{CommandFault, Missing, Named, put_hint, write_command_fault};
 use tx_jobs::{JobFault, write_fault};
 use tx_lint::write_escaped;
+use tx_requests::down_of;
 use tx_text::{Sink, WriteFault, finish, put_bytes, put_parts};
 
 /// Why the program stopped before a command was done.
@@ -148,7 +149,7 @@ fn exchange_asked(command: &Command) -> Option<&str> {
             let (exchange, _) = request.calls.as_ref()?;
             Some(exchange.as_str())
         }
-        _ => None,
+        _ => Some(down_of(command)?.exchange.as_ref()?.as_str()),
     }
 }
 
@@ -173,7 +174,7 @@ fn group_asked(command: &Command, place: usize) -> Option<&str> {
         Command::Trace(TraceRequest { down, .. })
         | Command::TraceThrough(ThroughRequest { down, .. })
         | Command::Fill(FillRequest { down, .. }) => named_at(down.as_deref()?, place),
-        _ => None,
+        _ => named_at(down_of(command)?.groups.as_deref()?, place),
     }
 }
 

@@ -36,7 +36,7 @@ pub use Rattle.tx_rank.specs.declared.mark.Mark.TheVariants.{Open, Ranked, Unsee
 pub use Rattle.tx_rank.specs.inner.Judged.{AddsBelow, AddsShorts, IsLongFound, IsRankedBelow, IsShortAt, LowOrigins}
 pub use Rattle.tx_rank.specs.inner.Links.{AreLinks, IsLink, LinksAll, LinksBelow}
 pub use Rattle.tx_rank.specs.inner.Marks.{AreSettled, Grew, IsEnd, IsInHand, IsLower, IsMarked, IsOnward, IsPassed, IsPassing, IsStep, IsTop, IsTrail, IsTried, NoneOpen, cost, rank_in, rank_of}
-pub use Rattle.tx_text.proofs.Putting.{puts_all, puts_more, puts_none, puts_then, puts_wrote}
+pub use Rattle.tx_text.proofs.Putting.{puts_all, puts_then, puts_wrote}
 pub use Rattle.tx_text.proofs.Writing.{some}
 pub use Rattle.tx_text.specs.Puts.{Puts}
 pub use borrow.Author.Tests.{ltb-false}

@@ -1,7 +1,8 @@
 -- What the grades of codes come to together.
-use Rattle.tx_rank.proofs.Common.{◌≡◌, ◌≢◌, ℕ, zero, suc, ◌+◌, ◌<◌, List, [], ◌∷◌, ◌++◌, length, inl, inr, Option, Some, None, refl, sym, ap, subst, ◌∙◌, arith, length-append, AllByRecursion, cases_lt, Plan, IsPlan, ambiguous_of, Ranks, IsCertified, Certificate, ranks_of, Bounds, Finding, net_of, IsTrueOf, AreFindingsOfCode, looped, straight, Certifies, IsRankedBelow}
+use Rattle.tx_rank.proofs.Common.{◌≡◌, ◌≢◌, ℕ, zero, suc, ◌+◌, ◌<◌, List, [], ◌∷◌, ◌++◌, length, inl, inr, Option, Some, None, refl, sym, ap, subst, ◌∙◌, arith, length-append, AllByRecursion, cases_lt, Plan, IsPlan, ambiguous_of, Ranks, IsCertified, Certificate, ranks_of, Bounds, Finding, net_of, IsTrueOf, AreFindingsOfCode, looped, straight, Certifies, IsRankedBelow, RanksByHeight}
 use Rattle.std.specs.Prelude.{◌↔◌, slice_get, IfSome, IfNone}
-use Rattle.tx_rank.specs.Grades.{IsGrade, CanBeCertified, CanBeCertifiedFor, NothingIsWrong, AreCodeGrades, AreUnmended}
+use Rattle.std.proofs.lemmas.Option.{slice_get_within}
+use Rattle.tx_rank.specs.Grades.{IsGrade, CanBeCertified, CanBeCertifiedFor, NothingIsWrong, AreCodeGrades, AreRanksOfGrades, AreUnmended}
 use Rattle.tx_rank.specs.inner.Together.{together}
 use Rattle.tx_rank.proofs.Origins.{at_push}
 use Rattle.tx_rank.proofs.Certifying.{certifies_code, certified_codes, distinct_none, none_distinct, none_true}
@@ -61,7 +62,7 @@ pub record IsGradedBelow (p : Plan) (c : ℕ) (plan : Option Bounds)
   pub each : (d : ℕ) (q : ℕ × Option Bounds) → slice_get codes d ≡ Some q
       → (q.0 ≡ d) × IsGrade (CanBeCertifiedFor p d) q.1
 
-none_at : {X : Type 0} (d : ℕ) (x : X) → slice_get [] d ≡ Some x → ⊥
+pub none_at : {X : Type 0} (d : ℕ) (x : X) → slice_get [] d ≡ Some x → ⊥
 none_at zero x e = cc
 none_at (suc d) x e = cc
 
@@ -118,6 +119,26 @@ module _ (p : Plan) where
               )
         ];
       }
+
+  -- the ranks of one code more, which are its heights if it has a grade
+  pub heights_next : (c : ℕ) (alone : Option Bounds) (codes : List (ℕ × Option Bounds))
+      (old new : Ranks) → length codes ≡ c → AreRanksOfGrades p old codes
+      → ((d x : ℕ) → d ≢ c → new d x ≡ old d x)
+      → IfSome alone (λ _. RanksByHeight (net_of p c) (new c))
+      → AreRanksOfGrades p new (codes ++ (c, alone) ∷ [])
+  heights_next c alone codes old new long before others here d b at =
+      elim (at_push codes (c, alone) (d, Some b) d at) [
+        | inl m ↦
+            let low = slice_get_within codes d (d, Some b) m in
+            let away : d ≢ c = λ e. absurd (omega (arith, low, e, long)) in
+            let same : old d ≡ new d = λ i x. sym (others d x away) i in
+            subst (RanksByHeight (net_of p d)) same (before d b m)
+        | inr m ↦
+            let is : alone ≡ Some b = ap (λ (q : ℕ × Option Bounds). q.1) (sym m.1) in
+            let own = subst (λ (o : Option Bounds).
+            IfSome o (λ _. RanksByHeight (net_of p c) (new c))) is here in
+            subst (λ (k : ℕ). RanksByHeight (net_of p k) (new k)) (sym (m.0 ∙ long)) own
+      ]
 
   -- what certifies each code certifies the plan
   module _ (l s : ℕ) where

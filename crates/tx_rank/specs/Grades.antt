@@ -6,6 +6,7 @@ use Rattle.tx_rank.specs.declared.bounds.Bounds.{Bounds}
 use Rattle.tx_rank.specs.declared.finding.Finding.{Finding}
 use Rattle.tx_rank.specs.Walks.{Net, net_of}
 use Rattle.tx_rank.specs.Nets.{Certifies}
+use Rattle.tx_rank.specs.Heights.{RanksByHeight}
 use Rattle.tx_rank.specs.Findings.{IsTrueOf, AreFindings}
 
 -- some ranks certify the plan
@@ -39,6 +40,11 @@ pub record AreCodeGrades (p : Plan) (codes : List (ℕ × Option Bounds)) : Type
   pub long : length codes ≡ length p.codes
   pub each : (c : ℕ) (q : ℕ × Option Bounds) → slice_get codes c ≡ Some q
       → (q.0 ≡ c) × IsGrade (CanBeCertifiedFor p c) q.1
+
+-- the ranks of each code that has a grade are its heights
+abbrev pub AreRanksOfGrades : Plan → Ranks → List (ℕ × Option Bounds) → Type 0
+AreRanksOfGrades p ranks codes = (c : ℕ) (b : Bounds)
+    → slice_get codes c ≡ Some (c, Some b) → RanksByHeight (net_of p c) (ranks c)
 
 -- Without a grade: the findings without a spare group, whatever the limit, if it is no smaller than
 -- the number of exchanges and so no walk is too long

@@ -5,9 +5,10 @@ ghost use Rattle.tx_plan.specs.Rules.{IsPlan};
 ghost use Rattle.tx_plan.specs.Certified.{IsCertified};
 ghost use Rattle.tx_cert.specs.Certificate.{rank_at as ranked_at, ranks_of};
 ghost use Rattle.tx_rank.specs.Walks.{net_of};
+ghost use Rattle.tx_rank.specs.Heights.{RanksByHeight};
 ghost use Rattle.tx_rank.specs.Findings.{IsTrueOf};
 ghost use Rattle.tx_rank.specs.Judged.{AreOrigins, IsJudged};
-ghost use Rattle.tx_rank.specs.Grades.{IsGrade, CanBeCertified, CanBeCertifiedFor, NothingIsWrong, AreCodeGrades, AreUnmended};
+ghost use Rattle.tx_rank.specs.Grades.{IsGrade, CanBeCertified, CanBeCertifiedFor, NothingIsWrong, AreCodeGrades, AreRanksOfGrades, AreUnmended};
 
 use crate::bounds::{Bounds, both};
 use crate::code_bounds::code_bounds;
@@ -39,6 +40,8 @@ fn code_grade<A: Allocator + Copy>(
     ensures grade { IfOk result (IsGrade (CanBeCertifiedFor plan.now code)) }
     ensures judged { IfOk result (λ _. IsJudged (net_of plan.now code) code 255 0
         findings.old.items findings.new.items (ranked_at cert.new code)) }
+    ensures heights { IfOk result (λ alone. IfSome alone (λ _.
+        RanksByHeight (net_of plan.now code) (ranked_at cert.new code))) }
     ensures others { IfOk result (λ _. (d x : ℕ) → d ≢ code
         → ranked_at cert.new d x ≡ ranked_at cert.old d x) }
     ensures codes { cert.new.codes ≡ cert.old.codes }
@@ -69,6 +72,8 @@ pub fn grade<A: Allocator + Copy>(alloc: A, plan: &Plan<A>) -> Result<Grade<A>, 
     ensures codes { IfOk result (λ g. AreCodeGrades plan.now g.codes.items) }
     ensures ranks { IfOk result (λ g. IfSome g.plan (λ b.
         IsCertified plan.now (ranks_of g.ranks) b.limit b.spare)) }
+    ensures heights { IfOk result (λ g.
+        AreRanksOfGrades plan.now (ranks_of g.ranks) g.codes.items) }
 
     // Something is found exactly where the plan has no grade.
     ensures fails { IfOk result (λ g. IfNone g.plan (g.findings.items ≢ [])) }

@@ -15,7 +15,8 @@ pub struct Grade<A: Allocator = Global> {
     /// What is wrong whatever the numbers, if the plan has no grade: the ambiguous pair, and for
     /// each code a loop, or a walk to each exchange without a list.
     pub findings: Vec<Finding<A>, A>,
-    /// Ranks by which the plan is certified so, if it has a grade.
+    /// Ranks by which the plan is certified so, if it has a grade: of each code that has one, the
+    /// heights of its exchanges.
     pub ranks: Cert<A>,
 }
 

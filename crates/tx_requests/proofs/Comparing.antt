@@ -7,7 +7,7 @@ use Rattle.tx_requests.specs.Compare.{IsOutlookOf}
 use Rattle.tx_requests.specs.declared.compare.Outlook.{Outlook}
 
 module _ {A : Type 0} where
-  in_order_if : (grade : Option Bounds) (p : Plan) (risks : List NamedRisk) (only : Bool) (os : List (Outcome A))
+  pub in_order_if : (grade : Option Bounds) (p : Plan) (risks : List NamedRisk) (only : Bool) (os : List (Outcome A))
       → IfSome grade (λ _. AreOutcomes p risks only os) → (grade ≡ None → os ≡ [])
       → AllByRecursion (λ t. AreInOrder t.cuts.items) os
   in_order_if None p risks only os o none = rw (none refl) tt

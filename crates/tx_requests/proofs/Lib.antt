@@ -1,6 +1,5 @@
 mod Grading
 mod Surviving
-mod Asking
 mod Changing
 mod LineKinds
 mod DeclaredLines

@@ -1,8 +1,7 @@
 -- Why a text was not looked through, and what was told of one that was.
-use Rattle.tx_requests.proofs.Common.{◌≡◌, ◌≢◌, ℕ, Bool, true, false, List, [], ◌∷◌, Result, Err, refl, sym, subst, false≢true, Frame, Word, Plan, CommandFault}
+use Rattle.tx_requests.proofs.Common.{◌≡◌, ◌≢◌, ℕ, Bool, true, false, List, [], ◌∷◌, Result, Err, refl, sym, subst, arith, false≢true, Plan, CommandFault}
 use Rattle.tx_text.specs.declared.frame.FaultAt.{FaultAt}
 use Rattle.tx_text.specs.declared.frame.FaultKind.{FaultKind}
-use Rattle.tx_text.specs.declared.frame.FrameFault.TheVariants.{LineTooLong, BadByte, NoMemory as TextNoMemory, Read as LineRead, NoHeader, NoEnd, AfterEnd}
 use Rattle.tx_text.specs.declared.whole_text.WholeTextFault.{WholeTextFault}
 use Rattle.tx_text.specs.declared.whole_text.WholeTextFault.TheVariants.{Read, NoMemory}
 use Rattle.tx_text.specs.Ends.{Input, Output}
@@ -11,7 +10,6 @@ use Rattle.tx_lint.specs.Gathered.{Told, told_of}
 use Rattle.tx_lint.specs.Lints.{Faults}
 use Rattle.tx_lint.specs.declared.entry.Entry.{Entry}
 use Rattle.tx_risk.specs.declared.fault.RiskWord.{RiskWord}
-use Rattle.tx_risk.specs.declared.fault.RiskWord.TheVariants.{UnknownWord, WrongCount, BadName, Duplicate, UnknownName, RepeatedGroup, NoMemory as RiskNoMemory}
 use Rattle.tx_files.specs.Faults.{text_stop, risks_stop, risks_stop_by, fault_mark}
 use Rattle.tx_requests.specs.Lint.{ToldLint, NotRead, WarnedWithRisks, LookedThrough, LintAnswers, LintRisksAnswers, LintAnswersBy}
 
@@ -23,25 +21,11 @@ not_read X plan out NoMemory broken silent = silent
 -- THE MARK of the sink stays
 
 pub text_mark : (X : Type 0) (old : Bool) (f : WholeTextFault) → old ≡ fault_mark {X = X} old (Err (text_stop f))
-text_mark X old Read = refl
-text_mark X old NoMemory = refl
+text_mark X old f = grind arith
 
 risks_by : (X : Type 0) (old : Bool) (f : FaultAt RiskWord) (k : FaultKind RiskWord)
     → old ≡ fault_mark {X = X} old (Err (risks_stop_by f k))
-risks_by X old f (Frame LineRead) = refl
-risks_by X old f (Frame LineTooLong) = refl
-risks_by X old f (Frame BadByte) = refl
-risks_by X old f (Frame TextNoMemory) = refl
-risks_by X old f (Frame NoHeader) = refl
-risks_by X old f (Frame NoEnd) = refl
-risks_by X old f (Frame AfterEnd) = refl
-risks_by X old f (Word UnknownWord) = refl
-risks_by X old f (Word WrongCount) = refl
-risks_by X old f (Word BadName) = refl
-risks_by X old f (Word Duplicate) = refl
-risks_by X old f (Word UnknownName) = refl
-risks_by X old f (Word RepeatedGroup) = refl
-risks_by X old f (Word RiskNoMemory) = refl
+risks_by X old f k = grind arith
 
 pub risks_mark : (X : Type 0) (old : Bool) (f : FaultAt RiskWord)
     → old ≡ fault_mark {X = X} old (Err (risks_stop f))

@@ -1,6 +1,7 @@
 -- What the clauses of a search for outages come to.
-use Rattle.std.proofs.Common.{Bool, ◌≡◌, ◌≢◌, ◌↔◌, ℕ, List, [], None}
-use Rattle.tx_requests.proofs.Common.{AllByRecursion, Plan, IsTrueOf, NamedRisk, AreOutcomes}
+use mir.Val.{bool_byte}
+use Rattle.std.proofs.Common.{Bool, true, false, ◌≡◌, ◌≢◌, ◌↔◌, ℕ, List, [], None, refl}
+use Rattle.tx_requests.proofs.Common.{if◌then◌else◌, AllByRecursion, Plan, IsTrueOf, NamedRisk, AreOutcomes}
 use Rattle.tx_rank.specs.Grades.{AreCodeGrades, AreUnmended}
 use Rattle.tx_risk.specs.Survivals.{HasGrade, AreTried, OnTried, OnUngraded}
 use Rattle.tx_risk.specs.declared.surviving.Survival.{Survival}
@@ -26,3 +27,8 @@ survival_is A p risks only (Ungraded grade) tried all none codes some right list
       listed = listed;
     } in
     (none, rw none (told, codes))
+
+-- the status of a command that ends with 1 if somebody is worse off
+pub as_byte : (b : Bool) → bool_byte b ≡ (if b then 1 else 0)
+as_byte true = refl
+as_byte false = refl

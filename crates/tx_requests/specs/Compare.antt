@@ -1,7 +1,9 @@
 -- The command `survive` with an old plan.
 use Rattle.std.specs.Prelude.{◌≡◌, Bool, if◌then◌else◌, List, [], None, Result, Ok, Err, IfSome}
 use Rattle.tx_plan.specs.Plan.{Plan}
+use Rattle.tx_risk.specs.Compared.{Side}
 use Rattle.tx_risk.specs.NamedRisks.{NamedRisk, risks_in}
+use Rattle.tx_risk.specs.declared.outage.Outage.{Outage}
 use Rattle.tx_risk.specs.Outages.{all_outages, AreOutcomes}
 use Rattle.tx_risk_report.specs.declared.comparison.Comparison.{Comparison}
 use Rattle.tx_risk_report.specs.Comparison.{comparison_text, is_against}
@@ -38,13 +40,20 @@ module _ {A : Type 0} where
   CompareAnswers r t (Ok a) = IsComparedOf r t a
   CompareAnswers r t (Err fault) = fault ≡ memory_stop
 
+  -- two plans with their outages, side by side
+  pub record AreBeside (network : Plan) (risks : List NamedRisk) (outages : List Outage)
+      (new old : Side A) (c : Comparison A) : Type 0 where
+    pub network_is : c.network.now ≡ network
+    pub risks_are : c.risks.now ≡ risks
+    pub outages_are : c.outages.now ≡ outages
+    pub new_is : c.new ≡ new
+    pub old_is : c.old ≡ old
+
   -- what is written of it
-  pub record IsWrittenOf (a : Compared A) (c : Comparison A) : Type 0 where
-    pub network : c.network.now ≡ a.texts.plans.joined.new
-    pub risks : c.risks.now ≡ a.texts.risks
-    pub outages : c.outages.now ≡ a.outages.items
-    pub new : c.new ≡ record { plan = a.texts.plans.new.plan; outcomes = a.new.outcomes.items }
-    pub old : c.old ≡ record { plan = a.texts.plans.old.plan; outcomes = a.old.outcomes.items }
+  abbrev pub IsWrittenOf : Compared A → Comparison A → Type 0
+  IsWrittenOf a c = AreBeside a.texts.plans.joined.new a.texts.risks a.outages.items
+      (record { plan = a.texts.plans.new.plan; outcomes = a.new.outcomes.items })
+      (record { plan = a.texts.plans.old.plan; outcomes = a.old.outcomes.items }) c
 
   abbrev pub ComparePrints : Compared A → Printing
   ComparePrints a old new marked_old marked_new result = (c : Comparison A) × IsWrittenOf a c

@@ -21,6 +21,8 @@ use Rattle.tx_rank.specs.declared.finding.Finding.{Finding}
 use Rattle.tx_rank.specs.Report.{finding_line}
 use Rattle.tx_mend.specs.declared.cause.Unserved.{Unserved}
 use Rattle.tx_mend.specs.MendText.{pair_line, unserved_line}
+use Rattle.tx_order.specs.declared.done.DoneWord.{DoneWord}
+use Rattle.tx_order.specs.DoneText.{fault_row as done_row}
 use Rattle.tx_risk.specs.declared.fault.RiskWord.{RiskWord}
 use Rattle.tx_risk.specs.RiskFaults.{fault_row as risk_row}
 use Rattle.tx_commands.specs.Entries.{table, entries_of, is_known}
@@ -60,6 +62,10 @@ ScriptFaultsAreExplained =
 -- each fault of a text of risks has its entry
 abbrev pub RiskFaultsAreExplained : Type 0
 RiskFaultsAreExplained = (kind : FaultKind RiskWord) → IsExplained (risk_row kind)
+
+-- each fault of a text of what is done has its entry
+abbrev pub DoneFaultsAreExplained : Type 0
+DoneFaultsAreExplained = (kind : FaultKind DoneWord) → IsExplained (done_row kind)
 
 -- each refusal of an event is known
 abbrev pub RefusalsAreExplained : Type 0

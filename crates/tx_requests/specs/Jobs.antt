@@ -34,11 +34,11 @@ verdict_status (No fault) = 1
 abbrev pub pair_status : Option (ℕ × ℕ) → ℕ
 pair_status pair = if is_some pair then 1 else 0
 
--- of a run after a check
-abbrev pub checked_status : Checked → ℕ
-checked_status (Ran summary) = 0
-checked_status (Denied fault) = 1
-
 -- of a run that is to show whether an event was refused
 abbrev pub strict_status : (strict : Bool) → Summary → ℕ
 strict_status strict summary = if strict && not (summary.refused == 0) then 1 else 0
+
+-- of a run after a check
+abbrev pub checked_status : (strict : Bool) → Checked → ℕ
+checked_status strict (Ran summary) = strict_status strict summary
+checked_status strict (Denied fault) = 1

@@ -5,7 +5,6 @@ pub mod Grade
 pub mod Change
 pub mod Survive
 pub mod Compare
-pub mod Asked
 pub mod Trace
 pub mod Fill
 pub mod Explain

@@ -3,12 +3,11 @@ use Rattle.std.specs.Prelude.{◌≡◌, ◌⊎◌, ℕ, Bool, true, false, List
 use Rattle.std.specs.Io.KnownBytes.{append_known}
 use Rattle.tx_text.specs.Ends.{StopsIn, Input, Output, IsWholeText}
 use Rattle.tx_plan.specs.Plan.{Plan}
-use Rattle.tx_risk.specs.NamedRisks.{NamedRisk}
+use Rattle.tx_risk.specs.NamedRisks.{NamedRisk, AreRisksFor}
 use Rattle.tx_lint.specs.declared.entry.Entry.{Entry}
 use Rattle.tx_lint.specs.AllFaults.{Fault, Progress, faults_of, progress_of}
 use Rattle.tx_lint.specs.Gathered.{told_of}
 use Rattle.tx_lint.specs.Lints.{Lint, Faults, AreWarningsOf, IsLintOf, lint_text, lint_status}
-use Rattle.tx_risk.specs.NamedRisks.{AreRisksFor}
 use Rattle.tx_risk.specs.RiskText.{ReadsRisks}
 use Rattle.tx_jobs.specs.declared.job_fault.JobFault.TheVariants.{Read, Write, NoMemory}
 use Rattle.tx_commands.specs.declared.lint.LintRequest.{LintRequest}

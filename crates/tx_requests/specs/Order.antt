@@ -1,5 +1,5 @@
 -- The command `order`.
-use Rattle.std.specs.Prelude.{◌≡◌, ◌⊎◌, ℕ, Bool, Option, None, Some, is_some, Result, Ok, Err}
+use Rattle.std.specs.Prelude.{◌≡◌, ◌⊎◌, ℕ, Bool, if◌then◌else◌, List, codes, Option, None, Some, is_some, Result, Ok, Err}
 use Rattle.tx_cert.specs.Certificate.{Certificate}
 use Rattle.tx_order.specs.declared.judging.OrderVerdict.{OrderVerdict}
 use Rattle.tx_order.specs.declared.judging.OrderVerdict.TheVariants.{Ordered, NoOrder, NewUnsound}
@@ -8,6 +8,7 @@ use Rattle.tx_order.specs.OrderVerdicts.{IsRightVerdict}
 use Rattle.tx_order.specs.OrderText.{order_report}
 use Rattle.tx_order.specs.Staged.{IsStageCert, HasStage, LacksStage}
 use Rattle.tx_commands.specs.declared.order.OrderRequest.{OrderRequest}
+use Rattle.tx_commands.specs.declared.order.Stopped.{Stopped}
 use Rattle.tx_files.specs.declared.ending.Ending.{Ending}
 use Rattle.tx_files.specs.declared.fault.CommandFault.{CommandFault}
 use Rattle.tx_files.specs.declared.fault.CommandFault.TheVariants.{NoSuchStage}
@@ -24,6 +25,11 @@ use Rattle.tx_requests.specs.Printing.{Printing, Writes}
 abbrev pub HasStageCert : Order → ℕ → Option Certificate → Type 0
 HasStageCert o n None = ⊥
 HasStageCert o n (Some cert) = IsStageCert o n cert
+
+-- an order from the old plan, or from where one was stopped, on or back
+abbrev pub word_of : Option Stopped → List ℕ
+word_of None = codes "ORDER"
+word_of (Some s) = if s.back then codes "RETURN" else codes "ONWARD"
 
 module _ {A : Type 0} where
   -- the verdict on the switching from the one plan to the other is right
@@ -49,7 +55,7 @@ module _ {A : Type 0} where
   -- with the lists that are replaced
   abbrev pub order_prints : OrderRequest → Switched A → Printing
   order_prints r a = Writes
-      (order_report a.old.plan a.new.plan r.limits.limit r.limits.spare a.verdict)
+      (order_report (word_of r.stopped) a.old.plan a.new.plan r.limits.limit r.limits.spare a.verdict)
 
   -- the plan after a stage goes into a file, as the old text revised, and so does a certificate of
   -- the stage
@@ -71,7 +77,7 @@ module _ {A : Type 0} where
       → Result (Ending A) CommandFault → Type 0
   EndsOrdered (Some n) asked old (Ordered o) = EndsAtStage asked old o n
   EndsOrdered None asked old (Ordered o) = EndsWith 0
-  EndsOrdered stage asked old (NoOrder p before after) = EndsWith 1
+  EndsOrdered stage asked old (NoOrder plans before after) = EndsWith 1
   EndsOrdered stage asked old (NewUnsound findings) = EndsWith 1
 
   abbrev pub OrderEnds : OrderRequest → Switched A → Result (Ending A) CommandFault → Type 0

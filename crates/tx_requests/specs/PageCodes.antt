@@ -9,19 +9,16 @@ use Rattle.tx_rank.specs.declared.finding.Finding.{Finding}
 use Rattle.tx_rank.specs.declared.finding.Finding.TheVariants.{Ambiguous, Loop, Short, Long}
 use Rattle.tx_rank.specs.declared.ranking.Ranking.{Ranking}
 use Rattle.tx_rank.specs.declared.ranking.Ranking.TheVariants.{Found, Fails}
+use Rattle.tx_order.specs.Switchings.{plans_of}
 use Rattle.tx_commands.specs.declared.page.PageRequest.{PageRequest}
 use Rattle.tx_files.specs.declared.page_reading.PageTexts.{PageTexts}
 use Rattle.tx_files.specs.declared.two_plans.PlanText.{PlanText}
+use Rattle.tx_files.specs.Names.{names_in, is_named, name_at}
 use Rattle.tx_requests.specs.declared.page_change.FoundChange.{FoundChange}
 use Rattle.tx_files.specs.declared.fault.CommandFault.{CommandFault}
 use Rattle.tx_files.specs.declared.fault.CommandFault.TheVariants.{NoSuchName}
 use Rattle.tx_files.specs.declared.missing.Named.TheVariants.{Code}
 use Rattle.tx_files.specs.Missing.{missing}
-use Rattle.tx_requests.specs.Asked.{name_at, names_in}
-
--- these figures are one of the names in a word
-abbrev pub is_named : (figures word : List ℕ) → Bool
-is_named figures word = list_any (λ w. bytes_eq w figures) (names_in word)
 
 -- the place of the first name in a word of which the plan has no code
 abbrev pub first_missing : Plan → List ℕ → Option ℕ
@@ -70,7 +67,8 @@ module _ {A : Type 0} where
   is_touched None change figures = false
   is_touched (Some old) None figures = false
   is_touched (Some old) (Some f) figures =
-      option_map_or (differs f.joined.old f.joined.new) (code_named old.plan figures) true
+      option_map_or (differs (plans_of f.switching).old (plans_of f.switching).new)
+      (code_named old.plan figures) true
 
   -- A page has the picture of a code: with `--all-codes` of each one, with `--code` of those that it
   -- names, and else of those with a finding and those that the change touches.

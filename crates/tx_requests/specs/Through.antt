@@ -9,7 +9,7 @@ use Rattle.tx_files.specs.declared.fault.CommandFault.{CommandFault}
 use Rattle.tx_requests.specs.declared.through.Passed.{Passed}
 use Rattle.tx_commands.specs.declared.trace.ThroughRequest.{ThroughRequest}
 use Rattle.tx_files.specs.Faults.{memory_stop}
-use Rattle.tx_requests.specs.Asked.{passed_of}
+use Rattle.tx_files.specs.Asked.{passed_of}
 use Rattle.tx_requests.specs.Printing.{Printing, Writes}
 
 -- what is asked of a plan by the name of what is passed, and those of groups

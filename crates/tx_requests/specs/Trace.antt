@@ -8,7 +8,7 @@ use Rattle.tx_files.specs.declared.fault.CommandFault.{CommandFault}
 use Rattle.tx_requests.specs.declared.trace.Traced.{Traced}
 use Rattle.tx_commands.specs.declared.trace.TraceRequest.{TraceRequest}
 use Rattle.tx_files.specs.Faults.{memory_stop}
-use Rattle.tx_requests.specs.Asked.{asked_of}
+use Rattle.tx_files.specs.Asked.{asked_of}
 use Rattle.tx_requests.specs.Printing.{Printing, Writes}
 
 -- what is asked of a plan by the words for an exchange, a code and groups

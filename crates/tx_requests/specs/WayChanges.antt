@@ -12,7 +12,7 @@ use Rattle.tx_files.specs.declared.fault.CommandFault.TheVariants.{NotInOldPlan}
 use Rattle.tx_files.specs.declared.two_plans.WithOld.{WithOld}
 use Rattle.tx_commands.specs.declared.trace.WaysRequest.{WaysRequest}
 use Rattle.tx_files.specs.Faults.{memory_stop}
-use Rattle.tx_requests.specs.Asked.{asked_of}
+use Rattle.tx_files.specs.Asked.{asked_of}
 use Rattle.tx_requests.specs.Printing.{Printing, Writes}
 
 -- the changes of calls that both plans have, or what of them is not there

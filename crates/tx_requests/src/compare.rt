@@ -4,7 +4,7 @@ ghost use Rattle.std.specs.List.{AllByRecursion};
 ghost use Rattle.tx_risk.specs.Compared.{AreInOrder};
 ghost use Rattle.tx_risk.specs.NamedRisks.{AreRisksFor};
 ghost use Rattle.tx_files.specs.TwoPlans.{HavePlansRisks};
-ghost use Rattle.tx_requests.specs.Compare.{CompareAnswers, ComparePrints, CompareEnds, IsOutlookOf, IsWrittenOf};
+ghost use Rattle.tx_requests.specs.Compare.{CompareAnswers, ComparePrints, CompareEnds, IsOutlookOf, AreBeside, IsWrittenOf};
 
 use crate::page_found::outcomes_of;
 use crate::request::Request;
@@ -76,7 +76,7 @@ impl<A: Allocator + Copy> Request<A> for CompareRequest {
 
 /// The grade of a plan, and what its outages come to, if it has one, with those groups of the named
 /// risks that it has.
-fn outlook_of<A: Allocator + Copy>(
+pub(crate) fn outlook_of<A: Allocator + Copy>(
     alloc: A,
     network: &Plan<A>,
     risks: &Risks<A>,
@@ -91,6 +91,25 @@ fn outlook_of<A: Allocator + Copy>(
     let grade = grade(alloc, plan)?;
     let outcomes = outcomes_of(alloc, plan, &grade, &risks, only)?;
     Ok(Outlook { grade, outcomes })
+}
+
+/// Two plans with their outages, side by side.
+pub(crate) fn beside<'a, A: Allocator>(
+    network: &'a Plan<A>,
+    risks: &'a Risks<A>,
+    outages: &'a [Outage],
+    new: Side<'a, A>,
+    old: Side<'a, A>,
+) -> Comparison<'a, A>
+    ensures { AreBeside network.now risks.now outages.now new.entry old.entry result }
+{
+    Comparison {
+        network,
+        risks,
+        outages,
+        new,
+        old,
+    }
 }
 
 /// Both plans, as they are written.

@@ -1,20 +1,20 @@
 // All commands, behind one call.
-ghost use Rattle.std.specs.Prelude.{◌≢◌};
+ghost use Rattle.std.specs.Prelude.{◌≡◌, ◌≢◌, option_map};
 ghost use Rattle.tx_text.specs.Calls.{CallsAtMost, source_calls};
 ghost use Rattle.tx_text.specs.Ends.{input};
 ghost use Rattle.tx_commands.specs.declared.command.Command.TheVariants.{Pipe};
-ghost use Rattle.tx_requests.specs.Doing.{IsDone};
+ghost use Rattle.tx_requests.specs.Doing.{down_of, IsDone};
 
 use crate::auditing::do_audit;
-use crate::carrying::carry_out;
+use crate::carrying::{carry_left, carry_out};
 use crate::explain::do_explain;
 use crate::linting::do_lint;
 use crate::running::{do_check, do_codes, do_pipe, do_run, do_telling};
 use std::alloc::Allocator;
-use tx_commands::Command;
+use tx_commands::{Command, Down};
 use tx_files::{
-    CommandFault, Ending, Which, read_for_page, read_one, read_plans, read_plans_with_risks,
-    read_whole, read_with_old, read_with_risks,
+    CommandFault, Ending, read_for_page, read_one, read_plans, read_plans_with_risks, read_stopped,
+    read_this, read_with_old, read_with_risks,
 };
 use tx_text::{Sink, Source};
 
@@ -38,38 +38,38 @@ pub fn do_command<A: Allocator + Copy, P: Source, Q: Source, R: Source, W: Sink>
     ensures second_calls { CallsAtMost Q.called source_calls second.old second.new }
     ensures third_calls { CallsAtMost R.called source_calls third.old third.new }
 {
+    let down = down_of(command);
     match command {
         Command::Pipe => do_pipe(alloc, first, out),
         Command::Run(request) => do_run(alloc, request, first, second, third, out),
-        Command::RunTelling(request) => do_telling(alloc, request, first, second, out),
+        Command::RunTelling(request) => do_telling(alloc, request, first, second, third, out),
         Command::Check(request) => do_check(alloc, request, first, second, out),
         Command::Codes(_) => do_codes(alloc, first, out),
         Command::Audit(request) => do_audit(alloc, request, first, out),
         Command::Lint(request) => do_lint(alloc, request, first, second, out),
         Command::Change(request) => {
-            carry_out(alloc, request, read_plans(alloc, first, second), out)
+            carry_left(alloc, request, down, read_plans(alloc, first, second), out)
         }
         Command::Order(request) => {
-            carry_out(alloc, request, read_plans(alloc, first, second), out)
+            let done = request.done.is_some();
+            let texts = read_stopped(alloc, request.stopped, done, first, second, third);
+            carry_left(alloc, request, down, texts, out)
         }
-        Command::Mend(request) => {
-            carry_out(alloc, request, read_whole(alloc, Which::This, first), out)
-        }
+        Command::Mend(request) => carry_left(alloc, request, down, read_this(alloc, first), out),
         Command::Survive(request) => {
             let texts = read_with_risks(alloc, request.risks.is_some(), first, second);
-            carry_out(alloc, request, texts, out)
+            carry_left(alloc, request, down, texts, out)
         }
         Command::Compare(request) => {
-            let named = request.risks.is_some();
-            let texts = read_plans_with_risks(alloc, named, first, second, third);
-            carry_out(alloc, request, texts, out)
+            let texts = read_plans_with_risks(alloc, request.risks.is_some(), first, second, third);
+            carry_left(alloc, request, down, texts, out)
         }
         Command::Page(request) => {
             let (risks, old) = (request.risks.is_some(), request.old.is_some());
             let texts = read_for_page(alloc, risks, old, first, second, third);
-            carry_out(alloc, request, texts, out)
+            carry_left(alloc, request, down, texts, out)
         }
-        Command::Grade(request) => carry_out(alloc, request, read_one(alloc, first), out),
+        Command::Grade(request) => carry_left(alloc, request, down, read_one(alloc, first), out),
         Command::Trace(request) => carry_out(alloc, request, read_one(alloc, first), out),
         Command::TraceThrough(request) => carry_out(alloc, request, read_one(alloc, first), out),
         Command::TraceChanges(request) => {
@@ -77,5 +77,22 @@ pub fn do_command<A: Allocator + Copy, P: Source, Q: Source, R: Source, W: Sink>
         }
         Command::Fill(request) => carry_out(alloc, request, read_one(alloc, first), out),
         Command::Explain(request) => do_explain(request, out),
+    }
+}
+
+/// What is down while a command judges plans, if anything is.
+pub fn down_of(command: &Command) -> Option<&Down>
+    ensures { option_map (λ d. d.now) result ≡ down_of command.now }
+{
+    match command {
+        Command::Audit(request) => request.down.as_ref(),
+        Command::Change(request) => request.down.as_ref(),
+        Command::Order(request) => request.down.as_ref(),
+        Command::Mend(request) => request.down.as_ref(),
+        Command::Survive(request) => request.down.as_ref(),
+        Command::Compare(request) => request.down.as_ref(),
+        Command::Page(request) => request.down.as_ref(),
+        Command::Grade(request) => request.down.as_ref(),
+        _ => None,
     }
 }

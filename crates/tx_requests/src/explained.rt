@@ -1,5 +1,5 @@
 // Every code that is printed is explained, and is in the table once.
-ghost use Rattle.tx_requests.specs.Explained.{CodesAreDistinct, PlanFaultsAreExplained, WarningsAreExplained, CertFaultsAreExplained, ScriptFaultsAreExplained, RiskFaultsAreExplained, RefusalsAreExplained, CausesAreExplained, CheckFaultsAreExplained, FindingsAreExplained, MendingsAreExplained};
+ghost use Rattle.tx_requests.specs.Explained.{CodesAreDistinct, PlanFaultsAreExplained, WarningsAreExplained, CertFaultsAreExplained, ScriptFaultsAreExplained, RiskFaultsAreExplained, DoneFaultsAreExplained, RefusalsAreExplained, CausesAreExplained, CheckFaultsAreExplained, FindingsAreExplained, MendingsAreExplained};
 
 use std::alloc::Allocator;
 
@@ -15,6 +15,7 @@ pub fn codes_are_explained<A: Allocator>()
     ensures certificates { CertFaultsAreExplained }
     ensures scripts { ScriptFaultsAreExplained }
     ensures risks { RiskFaultsAreExplained }
+    ensures done { DoneFaultsAreExplained }
     ensures refusals { RefusalsAreExplained }
     ensures causes { CausesAreExplained }
     ensures checks { CheckFaultsAreExplained }

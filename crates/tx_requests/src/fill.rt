@@ -3,11 +3,10 @@ ghost use Rattle.tx_plan.specs.Rules.{IsPlan};
 ghost use Rattle.tx_files.specs.Ending.{EndsWell};
 ghost use Rattle.tx_requests.specs.Fill.{FillAnswers, fill_prints};
 
-use crate::asked::asked_of;
 use crate::request::Request;
 use std::alloc::{Allocator, Global};
 use tx_commands::FillRequest;
-use tx_files::{CommandFault, Ending};
+use tx_files::{CommandFault, Ending, asked_of};
 use tx_fill::{Fill, set_up_calls, write_fill};
 use tx_plan::{CodeId, ExchangeId, GroupId, Plan};
 use tx_text::{Sink, WriteFault};

@@ -2,7 +2,6 @@
 //! what goes into its files. The jobs of `run`, `check`, `codes` and `audit` are in `tx_jobs`.
 #![tactic(auto)]
 
-mod asked;
 mod auditing;
 mod carrying;
 mod change;
@@ -20,6 +19,7 @@ mod page;
 mod page_change;
 mod page_codes;
 mod page_found;
+mod page_shown;
 mod request;
 mod running;
 mod survive;
@@ -28,7 +28,7 @@ mod trace;
 mod way_changes;
 
 pub use compare::{Compared, Outlook};
-pub use doing::do_command;
+pub use doing::{do_command, down_of};
 pub use explained::codes_are_explained;
 pub use fill::Filled;
 pub use law::told_lines_declare;

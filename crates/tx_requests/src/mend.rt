@@ -1,5 +1,5 @@
 // The command `mend`.
-ghost use Rattle.tx_files.specs.TwoPlans.{IsSaid};
+ghost use Rattle.tx_files.specs.Left.{HasRules};
 ghost use Rattle.tx_requests.specs.Mend.{MendAnswers, mend_prints, MendEnds};
 
 use crate::request::Request;
@@ -14,7 +14,7 @@ impl<A: Allocator + Copy> Request<A> for MendRequest {
 
     type Answer = (Vec<u8, A>, Mending<A>);
 
-    ghost fits = { IsSaid };
+    ghost fits = { HasRules };
 
     ghost answers = { MendAnswers };
 

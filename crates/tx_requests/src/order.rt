@@ -1,14 +1,14 @@
 // The command `order`.
-ghost use Rattle.std.specs.Prelude.{is_some};
+ghost use Rattle.std.specs.Prelude.{◌≡◌, is_some};
 ghost use Rattle.tx_plan.specs.Rules.{IsPlan};
 ghost use Rattle.tx_order.specs.Ordered.{plan_before};
 ghost use Rattle.tx_order.specs.Staged.{IsStageOf};
 ghost use Rattle.tx_files.specs.TwoPlans.{AreJoined};
-ghost use Rattle.tx_requests.specs.Order.{OrderAnswers, order_prints, EndsAtStage, OrderEnds};
+ghost use Rattle.tx_requests.specs.Order.{OrderAnswers, word_of, order_prints, EndsAtStage, OrderEnds};
 
 use crate::request::Request;
 use std::alloc::{Allocator, Global};
-use tx_commands::OrderRequest;
+use tx_commands::{OrderRequest, Stopped};
 use tx_files::{CommandFault, Ending, PlanText, Shown, TwoPlans, text_if_asked};
 use tx_order::{Order, OrderVerdict, judge_order, missing_stage, stage_of, write_order};
 use tx_text::{Sink, WriteFault};
@@ -46,6 +46,7 @@ impl<A: Allocator + Copy> Request<A> for OrderRequest {
 
     fn print<W: Sink>(&self, answer: &Self::Answer, out: &mut W) -> Result<(), WriteFault> {
         write_order(
+            word_of(self.stopped),
             &answer.old.plan,
             &answer.new.plan,
             &answer.verdict,
@@ -63,6 +64,17 @@ impl<A: Allocator + Copy> Request<A> for OrderRequest {
             },
             OrderVerdict::NoOrder(..) | OrderVerdict::NewUnsound(_) => Ok(Ending::of(1)),
         }
+    }
+}
+
+/// The word that says which order it is.
+fn word_of(stopped: Option<Stopped>) -> &'static [u8]
+    ensures { result.now ≡ word_of stopped }
+{
+    match stopped {
+        None => b"ORDER",
+        Some(stopped) if stopped.back => b"RETURN",
+        Some(_) => b"ONWARD",
     }
 }
 

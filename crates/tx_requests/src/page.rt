@@ -1,19 +1,20 @@
 // The command `page`.
-ghost use Rattle.std.specs.Prelude.{◌≡◌};
+ghost use Rattle.std.specs.Prelude.{◌≡◌, option_map};
 ghost use Rattle.tx_text.specs.Words.{before};
 ghost use Rattle.tx_html.specs.Shows.{Showed};
 ghost use Rattle.tx_page.specs.Page.{page_texts};
 ghost use Rattle.tx_page.specs.declared.subject.Subject.{Subject as SubjectNow};
 ghost use Rattle.tx_files.specs.PageReading.{AreForPage};
-ghost use Rattle.tx_requests.specs.Page.{is_line_end, title_of, PageAnswers, PagePrints, PageEnds, IsSubjectOf};
+ghost use Rattle.tx_requests.specs.Page.{is_line_end, title_of, groups_asked, exchange_asked, PageAnswers, PagePrints, PageEnds, IsSubjectOf};
 
-use crate::page_change::{FoundChange, change_of, shown_change};
+use crate::page_change::{FoundChange, change_of};
 use crate::page_codes::refuse_missing;
 use crate::page_found::{Found, found_of, pictures_of};
+use crate::page_shown::shown_change;
 use crate::request::Request;
 use sha2::{Digest, Sha256};
 use std::alloc::{Allocator, Global};
-use tx_commands::{PageRequest, VERSION};
+use tx_commands::{Down, PageRequest, VERSION};
 use tx_files::{CommandFault, Ending, PageTexts};
 use tx_html::PageSink;
 use tx_page::{Subject, is_safe, write_page};
@@ -45,8 +46,8 @@ impl<A: Allocator + Copy> Request<A> for PageRequest {
 
     fn answer(&self, alloc: A, texts: Self::Texts) -> Result<Self::Answer, CommandFault> {
         refuse_missing(alloc, &texts.plan.plan, self.code.as_deref())?;
-        let change = change_of(alloc, &texts.old, &texts.plan, self.limits)?;
         let found = found_of(alloc, &texts.plan.plan, self.limits, &texts.risks)?;
+        let change = change_of(alloc, &texts, &found, self.limits)?;
         let pictures = pictures_of(alloc, self, &texts, &found, &change)?;
         Ok(Paged {
             texts,
@@ -94,18 +95,34 @@ fn subject_of<'a, A: Allocator>(request: &'a PageRequest, answer: &'a Paged<A>) 
         version: VERSION,
         plan: &answer.texts.plan.plan,
         limits: request.limits,
+        down: groups_asked(&request.down),
+        down_exchange: exchange_asked(&request.down),
         ranking: &answer.found.ranking,
         grade: &answer.found.grade,
         risks: &answer.texts.risks,
-        change: shown_change(&answer.change, &answer.texts.old, &answer.texts.plan),
+        change: shown_change(request, answer),
         outcomes: answer.found.outcomes.as_slice(),
         pictures: answer.pictures.as_slice(),
     }
 }
 
+/// The word for groups that are to be down, if there is one.
+fn groups_asked(down: &Option<Down>) -> Option<&[u8]>
+    ensures { option_map (λ w. w.now) result ≡ groups_asked down.now }
+{
+    Some(down.as_ref()?.groups.as_ref()?.as_bytes())
+}
+
+/// The name of an exchange of which all groups are to be down, if there is one.
+fn exchange_asked(down: &Option<Down>) -> Option<&[u8]>
+    ensures { option_map (λ w. w.now) result ≡ exchange_asked down.now }
+{
+    Some(down.as_ref()?.exchange.as_ref()?.as_bytes())
+}
+
 /// The title of a page: what follows `# NAME ` in the first line of the text, or the name of the
 /// file.
-fn title_of<'a>(file: &'a [u8], text: &'a [u8]) -> &'a [u8]
+pub(crate) fn title_of<'a>(file: &'a [u8], text: &'a [u8]) -> &'a [u8]
     ensures { result.now ≡ title_of file.now text.now }
 {
     match text.strip_prefix(b"# NAME ") {

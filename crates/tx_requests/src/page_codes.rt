@@ -1,23 +1,14 @@
 // Of which codes a page has pictures.
 ghost use Rattle.std.specs.Prelude.{◌≡◌, ◌⊎◌, None, option_map, IfOk, IfErr};
-ghost use Rattle.tx_requests.specs.PageCodes.{is_named, first_missing, missing_code, IsNoCode, is_about, has_finding, differs_at, differs, is_touched, is_shown};
+ghost use Rattle.tx_requests.specs.PageCodes.{first_missing, missing_code, IsNoCode, is_about, has_finding, differs_at, differs, is_touched, is_shown};
 ghost use Rattle.tx_files.specs.Faults.{memory_stop};
 
-use crate::asked::nth_name;
 use crate::page_change::FoundChange;
 use std::alloc::Allocator;
 use tx_commands::PageRequest;
-use tx_files::{CommandFault, Named, PageTexts, PlanText};
-use tx_join::Joined;
+use tx_files::{CommandFault, Named, PageTexts, PlanText, is_named, name_at};
 use tx_plan::{CodeId, ExchangeId, Plan};
 use tx_rank::{Finding, Ranking};
-
-/// Whether a word names the figures of a code. It has a comma between two.
-fn is_named(word: &str, figures: &[u8]) -> bool
-    ensures { result ≡ is_named figures.now word.now }
-{
-    word.split(',').any(|name| name.as_bytes() == figures)
-}
 
 /// The place of the first name in a word of which the plan has no code.
 fn first_missing<A: Allocator>(plan: &Plan<A>, word: &str) -> Option<usize>
@@ -41,7 +32,7 @@ pub(crate) fn refuse_missing<A: Allocator + Copy>(
     match word {
         Some(word) => match first_missing(plan, word) {
             Some(place) => {
-                let name = nth_name(word, place);
+                let name = name_at(Some(word), place);
                 Err(CommandFault::missing(alloc, plan, Named::Code, place, name))
             }
             None => Ok(()),
@@ -71,20 +62,24 @@ fn has_finding<A: Allocator>(ranking: &Ranking<A>, code: CodeId) -> bool
 }
 
 /// Whether an exchange has another list or another bar for a code in the new plan.
-fn differs_at<A: Allocator>(joined: &Joined<A>, code: CodeId, exchange: ExchangeId) -> bool
-    ensures { result ≡ differs_at joined.now.old joined.now.new code exchange }
+fn differs_at<A: Allocator>(
+    old: &Plan<A>,
+    new: &Plan<A>,
+    code: CodeId,
+    exchange: ExchangeId,
+) -> bool
+    ensures { result ≡ differs_at old.now new.now code exchange }
 {
-    let (old, new) = (&joined.old, &joined.new);
     let (was, is) = (old.is_barred(exchange, code), new.is_barred(exchange, code));
     old.list(exchange, code) != new.list(exchange, code) || was != is
 }
 
 /// Whether one of the exchanges has.
-fn differs<A: Allocator>(joined: &Joined<A>, code: CodeId) -> bool
-    ensures { result ≡ differs joined.now.old joined.now.new code }
+fn differs<A: Allocator>(old: &Plan<A>, new: &Plan<A>, code: CodeId) -> bool
+    ensures { result ≡ differs old.now new.now code }
 {
-    let mut exchanges = 0..joined.new.exchanges();
-    exchanges.any(|index| differs_at(joined, code, ExchangeId::of(index)))
+    let mut exchanges = 0..new.exchanges();
+    exchanges.any(|index| differs_at(old, new, code, ExchangeId::of(index)))
 }
 
 /// Whether a change touches the code of these figures, if there is a change.
@@ -97,7 +92,10 @@ fn is_touched<A: Allocator>(
 {
     match (old, change) {
         (Some(old), Some(change)) => match old.plan.code_named(figures) {
-            Some(code) => differs(&change.joined, code),
+            Some(code) => {
+                let (old, new) = change.switching.plans();
+                differs(old, new, code)
+            }
             None => true,
         },
         _ => false,

@@ -3,11 +3,10 @@ ghost use Rattle.tx_plan.specs.Rules.{IsPlan};
 ghost use Rattle.tx_files.specs.Ending.{EndsWell};
 ghost use Rattle.tx_requests.specs.Through.{ThroughAnswers, through_prints};
 
-use crate::asked::passed_of;
 use crate::request::Request;
 use std::alloc::{Allocator, Global};
 use tx_commands::ThroughRequest;
-use tx_files::{CommandFault, Ending};
+use tx_files::{CommandFault, Ending, passed_of};
 use tx_plan::{GroupId, Pair, Plan};
 use tx_text::{Sink, WriteFault};
 use tx_trace::{Through, calls_through, plan_left, write_through};

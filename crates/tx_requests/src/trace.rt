@@ -3,11 +3,10 @@ ghost use Rattle.tx_plan.specs.Rules.{IsPlan};
 ghost use Rattle.tx_files.specs.Ending.{EndsWell};
 ghost use Rattle.tx_requests.specs.Trace.{TraceAnswers, trace_prints};
 
-use crate::asked::asked_of;
 use crate::request::Request;
 use std::alloc::{Allocator, Global};
 use tx_commands::TraceRequest;
-use tx_files::{CommandFault, Ending};
+use tx_files::{CommandFault, Ending, asked_of};
 use tx_plan::{GroupId, Plan};
 use tx_text::{Sink, WriteFault};
 use tx_trace::{Trace, plan_left, trace_calls, write_trace};

@@ -3,11 +3,10 @@ ghost use Rattle.tx_files.specs.Ending.{EndsWell};
 ghost use Rattle.tx_files.specs.TwoPlans.{AreSaid};
 ghost use Rattle.tx_requests.specs.WayChanges.{changed_named, changes_asked, AreChanges, WaysAnswers, ways_prints};
 
-use crate::asked::asked_of;
 use crate::request::Request;
 use std::alloc::Allocator;
 use tx_commands::WaysRequest;
-use tx_files::{CommandFault, Ending, WithOld};
+use tx_files::{CommandFault, Ending, WithOld, asked_of};
 use tx_plan::{Pair, Plan};
 use tx_text::{Sink, WriteFault};
 use tx_trace::{WayChange, change_of_calls, changes_of_ways, write_way_changes};

@@ -1,16 +1,16 @@
 -- The cuts of one code, one exchange after another.
-use Rattle.tx_risk.proofs.Common.{◌≡◌, ◌↔◌, ℕ, ◌+◌, ◌<◌, true, List, [], ◌∷◌, ◌++◌, map, inl, inr, length, Some, None, refl, sym, ap, subst, ◌∙◌, arith, append_assoc, append-nil, cases_eq, and_parts, none-some, same_Some, map-append, Plan, IsPlan, EachPair, is_origin_for, is_net, Among, among_left, among_right, among_cases, among_all, pairs_put, Net, Goes, AllDiffer, net_of, passed, certifies_code, Ways, Cut, Outage, Risk, net_without, IsCut, LeadsHome, Left, left_net, AreWaysFrom, Adds, AreCuts, AreCutsBefore}
+use Rattle.tx_risk.proofs.Common.{◌≡◌, ℕ, ◌+◌, ◌<◌, true, List, [], ◌∷◌, ◌++◌, map, inl, inr, length, Some, None, refl, sym, ap, subst, ◌∙◌, arith, append_assoc, append-nil, cases_eq, and_parts, none-some, same_Some, map-append, Plan, IsPlan, EachPair, is_origin_for, is_net, Among, among_left, among_right, among_cases, among_all, pairs_put, Net, Goes, AllDiffer, net_of, passed, certifies_code, Ways, Cut, Leg, Outage, Risk, net_without, IsCut, Left, left_net, AreWaysFrom, Adds, AreCuts, AreCutsBefore}
 use Rattle.tx_rank.specs.Heights.{IsReached}
 use Rattle.tx_rank.proofs.Ranks.{once_down}
 use Rattle.tx_risk.specs.Outages.{is_asked, IsCutAs, start_at}
 use Rattle.tx_risk.specs.Survivals.{HasGrade}
 use Rattle.tx_risk.proofs.Ordering.{goes_left}
 
-module _ {A : Type 0} (l : Left) (o : Outage) where
-  abbrev Before : ℕ → List (Cut A) → Type 0
-  Before i cuts = AreCutsBefore l o i cuts
+module _ (l : Left) (o : Outage) (legs : List Leg) where
+  abbrev Before : ℕ → List Cut → Type 0
+  Before i cuts = AreCutsBefore l o legs i cuts
 
-  pub before_none : (old : List (Cut A)) → Adds (Before 0) old old
+  pub before_none : (old : List Cut) → Adds (Before 0) old old
   before_none old = record {
     mine = [];
     added = sym (append-nil old);
@@ -23,8 +23,8 @@ module _ {A : Type 0} (l : Left) (o : Outage) where
     };
   }
 
-  pub before_all : (old new : List (Cut A)) (i : ℕ) → ((x : ℕ) → is_asked l.plan o l.code x ≡ true → x < i)
-      → Adds (Before i) old new → Adds (AreCuts l o) old new
+  pub before_all : (old new : List Cut) (i : ℕ) → ((x : ℕ) → is_asked l.plan o l.code x ≡ true → x < i)
+      → Adds (Before i) old new → Adds (AreCuts l o legs) old new
   before_all old new i few b = record {
     mine = b.mine;
     added = b.added;
@@ -37,7 +37,7 @@ module _ {A : Type 0} (l : Left) (o : Outage) where
   }
 
   -- the exchange at index i is not in question, or there is no cut from it
-  pub before_skip : (old new : List (Cut A)) (i : ℕ) → Adds (Before i) old new
+  pub before_skip : (old new : List Cut) (i : ℕ) → Adds (Before i) old new
       → ((steps : List (ℕ × ℕ)) → is_asked l.plan o l.code i ≡ true
       → IsCut (left_net l) i steps → ⊥)
       → Adds (Before (i + 1)) old new
@@ -58,8 +58,8 @@ module _ {A : Type 0} (l : Left) (o : Outage) where
   }
 
   -- its cut was added
-  pub before_more : (old new : List (Cut A)) (i : ℕ) (c : Cut A) → Adds (Before i) old new
-      → start_at c ≡ i → IsCutAs (left_net l) l.code c → is_asked l.plan o l.code i ≡ true
+  pub before_more : (old new : List Cut) (i : ℕ) (c : Cut) → Adds (Before i) old new
+      → start_at c ≡ i → IsCutAs (left_net l) l.code legs c → is_asked l.plan o l.code i ≡ true
       → Adds (Before (i + 1)) old (new ++ c ∷ [])
   before_more old new i c b at is ask =
       let t = b.these in
@@ -73,7 +73,7 @@ module _ {A : Type 0} (l : Left) (o : Outage) where
             | inl a ↦ t.each d a
             | inr k ↦
                 elim k [
-                  | inl q ↦ subst (IsCutAs (left_net l) l.code) q is
+                  | inl q ↦ subst (IsCutAs (left_net l) l.code legs) q is
                   | inr z ↦
                       absurd z
                 ]
@@ -82,7 +82,7 @@ module _ {A : Type 0} (l : Left) (o : Outage) where
             | inl a ↦ t.asked d a
             | inr k ↦
                 elim k [
-                  | inl q ↦ subst (λ (e : Cut A). is_asked l.plan o l.code (start_at e) ≡ true) q
+                  | inl q ↦ subst (λ (e : Cut). is_asked l.plan o l.code (start_at e) ≡ true) q
                       (ap (is_asked l.plan o l.code) at ∙ ask)
                   | inr z ↦ absurd z
                 ]
@@ -106,25 +106,28 @@ module _ {A : Type 0} (l : Left) (o : Outage) where
       }
 
 -- without a way to a dead end there is no cut
-pub none_cut : (n : Net) (x : ℕ) (w : Ways) (steps : List (ℕ × ℕ)) → AreWaysFrom n x w
+pub none_cut : (n : Net) (legs : List Leg) (x : ℕ) (w : Ways) (steps : List (ℕ × ℕ)) → AreWaysFrom n legs x w
     → w.dead_end ≡ None → IsCut n x steps → ⊥
-none_cut n x w steps h e c = none-some _ (sym e ∙ (h.distance.least steps c.dead).1)
+none_cut n legs x w steps h e c = none-some _ (sym e ∙ (h.least steps c.dead).1)
 
 -- a cut by a shortest way to a dead end
-pub cut_as : {A : Type 0} (n : Net) (c : Cut A) (code x : ℕ) (w : Ways) → AreWaysFrom n x w
-    → c.code ≡ code → c.walk.start ≡ x → IsCut n x c.walk.steps
-    → w.dead_end ≡ Some (length c.walk.steps) → c.stray ≡ w.home → IsCutAs n code c
-cut_as n c code x w h of start cut dead stray = record {
-  of_code = of;
-  cut = subst (λ y. IsCut n y c.walk.steps) (sym start) cut;
-  shortest = λ steps k.
-      let m = h.distance.least steps (subst (λ y. IsCut n y steps) start k).dead in
-      let same = same_Some _ _ (sym dead ∙ m.1) in
-      let few = m.2 in
-      omega arith;
-  stray = subst (λ y. (c.stray ≡ true) ↔ LeadsHome n y) (sym start)
-      (λ t. h.home.0 (sym stray ∙ t), λ k. stray ∙ h.home.1 k);
-}
+pub cut_as : (n : Net) (legs : List Leg) (code x d : ℕ) (w : Ways) → AreWaysFrom n legs x w
+    → w.dead_end ≡ Some d → ((steps : List (ℕ × ℕ)) → Goes n x steps → AllDiffer (passed x steps))
+    → IsCutAs n code legs (record { code = code; start = x; end = w.end; first = w.first; steps = d; stray = w.home })
+cut_as n legs code x d w h e once =
+    let k = h.way d e in
+    record {
+      of_code = refl;
+      cut = record { dead = k.dead; once = once _ k.dead.goes };
+      long = k.long;
+      ends = k.ends;
+      shortest = λ steps c.
+          let m = h.least steps c.dead in
+          let same = same_Some _ _ (sym e ∙ m.1) in
+          let few = m.2 in
+          omega arith;
+      stray = h.home;
+    }
 
 -- where a plan has a grade no walk passes an exchange twice
 pub graded_once : (p : Plan) (risk : Risk) (code x : ℕ) (steps : List (ℕ × ℕ)) → HasGrade p

@@ -1,17 +1,19 @@
 -- One outage after another, and one code after another.
-use Rattle.tx_risk.proofs.Common.{◌≡◌, ℕ, zero, suc, ◌+◌, ◌<◌, Bool, true, false, List, [], ◌∷◌, ◌++◌, map, take, get_or, length, Option, Some, None, refl, sym, ap, subst, ◌∙◌, arith, append_assoc, append-nil, eqb-true, false≢true, map-append, take_more, slice_get_within, slice_get, is_some, ◌==◌, if◌then◌else◌, option_map_or, option_and_then, list_any, range_with_len, AllByRecursion, far_end, any_mem, all_among, among_at, Cut, Outcome, Outage, Group, Exchange, Named, Risk, NamedRisk, AreRisksFor, AreWithin, named_groups, Adds}
+use Rattle.tx_risk.proofs.Common.{◌≡◌, ℕ, zero, suc, ◌+◌, ◌<◌, Bool, true, false, List, [], ◌∷◌, ◌++◌, map, take, get_or, length, Option, Some, None, refl, sym, ap, subst, ◌∙◌, arith, append_assoc, append-nil, eqb-true, false≢true, map-append, take_more, slice_get_within, slice_get, is_some, ◌==◌, if◌then◌else◌, option_map_or, option_and_then, list_any, range_with_len, AllByRecursion, far_end, any_mem, all_among, among_at, Cut, Leg, Outcome, Outage, Group, Exchange, Named, Risk, NamedRisk, AreRisksFor, AreWithin, named_groups, Adds, Grows}
 use Rattle.std.proofs.lemmas.List.FromFn.{map-range_with_len_more}
+use Rattle.tx_risk.proofs.Legs.{cuts_more}
 use Rattle.tx_plan.specs.Plan.{Plan, Group as Row}
 use Rattle.tx_plan.proofs.Lists.{all_put, all_map}
 use Rattle.tx_risk.specs.Outages.{risk_of, all_outages, AreCutsOfCode, AreCutsBelow, IsOutcome}
 
-module _ {A : Type 0} (p : Plan) (risk : Risk) (o : Outage) where
-  -- the cuts of one code more
-  pub codes_next : (i : ℕ) (old new : List (Cut A)) → AreCutsBelow p risk o i old
-      → Adds (AreCutsOfCode p risk o i) old new → AreCutsBelow p risk o (i + 1) new
-  codes_next i old new a b =
-      subst (λ k. AreCutsBelow p risk o k new) (let e : suc i ≡ i + 1 = omega arith in e)
-      (old, b.mine, b.added, a, b.these)
+-- the cuts of one code more
+pub codes_next : (p : Plan) (risk : Risk) (o : Outage) (i : ℕ) (before legs : List Leg) (old new : List Cut)
+    → AreCutsBelow p risk o before i old → Grows before legs → Adds (AreCutsOfCode p risk o legs i) old new
+    → AreCutsBelow p risk o legs (i + 1) new
+codes_next p risk o i before legs old new a g b =
+    let kept = subst (λ l. AreCutsBelow p risk o l i old) (sym g.added) (cuts_more p risk o before g.more i old a) in
+    subst (λ k. AreCutsBelow p risk o legs k new) (let e : suc i ≡ i + 1 = omega arith in e)
+    (old, b.mine, b.added, kept, b.these)
 
 -- what stands at one index more
 pub mapped_next : {X : Type 0} (f : ℕ → X) (i : ℕ) (x : X) (front old new : List X)

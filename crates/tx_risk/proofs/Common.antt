@@ -1,5 +1,5 @@
 -- The names that most proofs here cite, passed on from one place. Declares nothing.
-pub use Rattle.std.proofs.Common.{Bool, Err, List, None, Ok, Option, Some, Vec, [], ap, append-nil, append_assoc, arith, codes, cond, eq-eqb, eqb-true, false, get_or, inl, inr, length, length-append, map, nat_lt, not, refl, rules, subst, suc, sym, take, tests, true, vec_capacity, vec_len, zero, ℕ, ◌&&◌, ◌++◌, ◌+◌, ◌<◌, ◌==◌, ◌↔◌, ◌∙◌, ◌∷◌, ◌≡◌, ◌≢◌, ◌≤◌, ◌⊎◌}
+pub use Rattle.std.proofs.Common.{Bool, Err, List, None, Ok, Option, Some, Vec, [], ap, append-nil, append_assoc, arith, codes, cond, eq-eqb, eqb-true, false, get_or, inl, inr, length, length-append, map, nat_lt, not, refl, rules, subst, suc, sym, take, tests, true, vec_capacity, vec_len, zero, ℕ, ◌&&◌, ◌++◌, ◌+◌, ◌<◌, ◌==◌, ◌∙◌, ◌∷◌, ◌≡◌, ◌≢◌, ◌≤◌, ◌⊎◌}
 pub use Rattle.std.proofs.Math.ListN.{set}
 pub use Rattle.std.proofs.lemmas.Bool.{and_parts, both_ways, cases_eq, eqb-false, false_from_ne_true, false≢true, ltb-false, ltb-true, ne_eqb, not-false, not-true}
 pub use Rattle.std.proofs.lemmas.Iterator.Search.{any_from_yields_List}
@@ -8,7 +8,7 @@ pub use Rattle.std.proofs.lemmas.List.Sorted.{IsPartitionPoint-from_clause}
 pub use Rattle.std.proofs.lemmas.Option.{none-some, same_Some, slice_get-get_or, slice_get_read, slice_get_within}
 pub use Rattle.std.specs.List.{AllByRecursion, filter_map, list_any, range_with_len}
 pub use Rattle.std.specs.Option.{option_and_then, option_map_or}
-pub use Rattle.std.specs.Prelude.{IsPermutation, filter, find, if◌then◌else◌, is_none, is_some, replicate, slice_get, unwrap_or}
+pub use Rattle.std.specs.Prelude.{IsPermutation, filter, find, if◌then◌else◌, is_none, is_some, replicate, slice_get}
 pub use Rattle.std.specs.Str.{bytes_eq}
 pub use Rattle.tx_cert.specs.Certificate.{ranks_of}
 pub use Rattle.tx_machine.proofs.Invariant.{inv_opening}
@@ -42,7 +42,7 @@ pub use Rattle.tx_plan.specs.Among.{Among}
 pub use Rattle.tx_plan.specs.Certified.{IsCertified, Ranks}
 pub use Rattle.tx_plan.specs.Circuits.{ends_of, far_end}
 pub use Rattle.tx_plan.specs.Codes.{code_of}
-pub use Rattle.tx_plan.specs.Declaring.{group_at, has_group}
+pub use Rattle.tx_plan.specs.Declaring.{has_group}
 pub use Rattle.tx_plan.specs.Plan.{Plan, group_name, group_named, home_of}
 pub use Rattle.tx_plan.specs.Routes.{is_barred, is_origin_for, route_list}
 pub use Rattle.tx_plan.specs.Rules.{EachPair, IsPlan}
@@ -59,6 +59,7 @@ pub use Rattle.tx_risk.specs.Outages.{AreCutsBelow, AreCutsOfCode, IsOutcome, fa
 pub use Rattle.tx_risk.specs.Risks.{IsCut, IsDeadEnd, LeadsHome, Risk, left_of, net_without, without}
 pub use Rattle.tx_risk.specs.Served.{AllDown, IsClear, NoneOnFailed}
 pub use Rattle.tx_risk.specs.declared.cut.Cut.{Cut}
+pub use Rattle.tx_risk.specs.declared.cut.Leg.{Leg}
 pub use Rattle.tx_risk.specs.declared.cut.Outcome.{Outcome}
 pub use Rattle.tx_risk.specs.declared.nearest.Step.{Step}
 pub use Rattle.tx_risk.specs.declared.nearest.Ways.{Ways}
@@ -69,7 +70,7 @@ pub use Rattle.tx_risk.specs.inner.Hits.{AreEnds, TakesItsGroups, is_emptied}
 pub use Rattle.tx_risk.specs.inner.InOrder.{comes_before}
 pub use Rattle.tx_risk.specs.inner.Left.{IsLeft, Left, gone, left_net}
 pub use Rattle.tx_risk.specs.inner.Marked.{marked}
-pub use Rattle.tx_risk.specs.inner.Nearest.{AreDeadEnds, AreDeadEndsKept, AreWaysFrom, LeadsToDeadEnd, dead_end_alone, distance_in, has_way_home, home_alone, nearest_step, ways_in}
+pub use Rattle.tx_risk.specs.inner.Nearest.{AreAllWays, AreDeadEnds, AreDeadEndsKept, AreWaysFrom, Grows, LeadsToDeadEnd, dead_end_at, has_way_home, home_alone, nearest_step, ways_in}
 pub use Rattle.tx_risk.specs.inner.Orders.{IsByRank, IsOrder, is_above, rank_or_0}
 pub use Rattle.tx_risk.specs.inner.Rows.{risk_of_row}
 pub use Rattle.tx_text.proofs.Exits.{exits_with}

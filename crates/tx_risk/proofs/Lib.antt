@@ -7,7 +7,7 @@ pub mod LeftLists
 pub mod Kept
 pub mod Ordering
 pub mod Measuring
-pub mod Descending
+pub mod Legs
 pub mod AddedCuts
 pub mod AddedOutages
 pub mod Unhit
@@ -16,5 +16,6 @@ pub mod Rows
 pub mod GroupWords
 pub mod RiskLines
 pub mod Comparing
+pub mod Places
 pub mod RisksIn
 pub mod Common

@@ -1,10 +1,11 @@
 -- Where the ways from an exchange lead, by those of the exchanges to which its list leads.
 use Rattle.std.proofs.Common.{◌≡◌, ◌≢◌, ◌↔◌, ℕ, Bool, zero, suc, ◌+◌, ◌<◌, ◌≤◌, true, false, nat_lt, List, [], ◌∷◌, ◌++◌, ◌⊎◌, map, fold, inl, inr, length, get_or, take, Option, Some, None, refl, sym, ap, ◌∙◌, subst, arith}
-use Rattle.tx_risk.proofs.Common.{slice_get, replicate, if◌then◌else◌, cases_eq, ltb-true, ltb-false, false≢true, none-some, same_Some, set, Among, among_left, among_right, among_cases, among_map, map_among, Net, Goes, end_of, among_at, take_next, Ways, Step, IsDeadEnd, LeadsHome, IsOrder}
+use Rattle.tx_risk.proofs.Common.{slice_get, replicate, if◌then◌else◌, cases_eq, ltb-true, ltb-false, false≢true, none-some, same_Some, set, Among, among_left, among_right, among_cases, among_map, map_among, Net, Goes, end_of, among_at, take_next, Leg, Ways, Step, IsDeadEnd, LeadsHome, IsOrder}
 use Rattle.std.specs.Option.{option_and_then, option_map, option_map_or}
 use Rattle.std.proofs.lemmas.List.{get_or-set_same, get_or-set_other, length-set, length-replicate}
 use Rattle.tx_machine.proofs.Lists.{any_mem, mem_any}
-use Rattle.tx_risk.specs.inner.Nearest.{AreDeadEnds, LeadsToDeadEnd, IsDistance, AreWaysFrom, AreDeadEndsKept, home_alone, dead_end_alone, ways_in, distance_in, nearer, nearest_step, step_by, leads_home, has_way_home}
+use Rattle.tx_risk.proofs.Legs.{ways_more, way_next, leg_of, ways_after}
+use Rattle.tx_risk.specs.inner.Nearest.{AreDeadEnds, LeadsToDeadEnd, IsWayBy, AreWaysFrom, AreDeadEndsKept, home_alone, dead_end_at, ways_in, distance_in, nearer, nearest_step, step_by, leads_home, has_way_home}
 use Rattle.tx_risk.proofs.Ways.{is_among}
 use Rattle.tx_risk.proofs.Ordering.{way_few, among_first, uncut_home}
 
@@ -101,14 +102,14 @@ module _ (n : Net) (kept : List Ways) (x : ℕ) where
         let r = map_among (step_by n kept x) (Some s) (n.list x) m in step_of r.0 s r.1 r.2
   ]
 
-  module _ (known : (g y : ℕ) → Among g (n.list x) → n.far g x ≡ Some y
-      → AreWaysFrom n y (ways_in kept y)) where
+  module _ (legs : List Leg) (known : (g y : ℕ) → Among g (n.list x) → n.far g x ≡ Some y
+      → AreWaysFrom n legs y (ways_in kept y)) where
     -- and no way to a dead end is shorter than by it
     pub nearest_least : (t : ℕ × ℕ) (rest : List (ℕ × ℕ)) → IsDeadEnd n x (t ∷ rest)
         → (s : Step) × (nearest_step n kept x ≡ Some s) × (s.distance ≤ length rest)
     nearest_least t rest d =
         let go = d.goes in
-        let k = (known t.0 t.1 go.1 go.2).distance.least rest
+        let k = (known t.0 t.1 go.1 go.2).least rest
         (record { goes = go.3; away = d.away; none = d.none }) in
         let s : Step = record { group = t.0; to = t.1; distance = k.0 } in
         let is : step_by n kept x t.0 ≡ Some s = let f = go.2 in let q = k.1 in rw (f, q) refl in
@@ -116,39 +117,6 @@ module _ (n : Net) (kept : List Ways) (x : ℕ) where
         (among_map (step_by n kept x) t.0 (n.list x) go.1) in
         let r = nearest.least s (inr m) in
         (r.0, r.1, let a = r.2 in let b = k.2 in omega arith)
-
-    pub step_way : x ≢ n.home → (s : Step) → IsStep n kept x s
-        → (steps : List (ℕ × ℕ)) × IsDeadEnd n x steps × (length steps ≡ s.distance + 1)
-    step_way away s h =
-        let w = (known s.group s.to h.listed h.leads).distance.way s.distance h.at in
-        let d = w.1 in (
-          (s.group, s.to) ∷ w.0,
-          record {
-            goes = (away, h.listed, h.leads, d.goes);
-            away = d.away;
-            none = d.none;
-          },
-          let c = w.2 in omega arith,
-        )
-
-    -- one step more than from there
-    pub measured : x ≢ n.home → (s : Step) → nearest_step n kept x ≡ Some s
-        → IsDistance n x (Some (s.distance + 1))
-    measured away s is = record { way = way; least = few }
-      where
-        way : (d : ℕ) → Some (s.distance + 1) ≡ Some d
-            → (steps : List (ℕ × ℕ)) × IsDeadEnd n x steps × (length steps ≡ d)
-        way d e =
-            let w = step_way away s (nearest_is s is) in
-            (w.0, w.1, w.2 ∙ same_Some _ _ e)
-
-        few : (steps : List (ℕ × ℕ)) → IsDeadEnd n x steps
-            → (d : ℕ) × (Some (s.distance + 1) ≡ Some d) × (d ≤ length steps)
-        few [] d = absurd (subst (Among s.group) d.none (nearest_is s is).listed)
-        few (t ∷ rest) d =
-            let r = nearest_least t rest d in
-            let same = ap (λ (s : Step). s.distance) (same_Some _ _ (sym is ∙ r.1)) in
-            (s.distance + 1, refl, let l = r.2 in omega arith)
 
     -- a way leads home exactly where one does from an exchange to which a group leads
     pub led_home : x ≢ n.home → has_way_home n kept x ≡ true ↔ LeadsHome n x
@@ -178,6 +146,29 @@ module _ (n : Net) (kept : List Ways) (x : ℕ) where
         back : LeadsHome n x → has_way_home n kept x ≡ true
         back h = on h.steps h.goes h.home
 
+    -- one step more than from there
+    pub ways_by : x ≢ n.home → (s : Step) → nearest_step n kept x ≡ Some s → (home : Bool)
+        → home ≡ has_way_home n kept x → AreWaysFrom n (legs ++ leg_of kept s ∷ []) x (ways_after kept legs s home)
+    ways_by away s is home says =
+        let h = nearest_is s is in
+        let led = led_home away in
+        let to = ways_in kept s.to in
+        record {
+          way = λ d e. subst (λ c. IsWayBy n (legs ++ leg_of kept s ∷ []) x c (length legs) to.end) (same_Some _ _ e)
+              (way_next n legs (leg_of kept s) x s.distance to.end away h.listed h.leads
+              ((known s.group s.to h.listed h.leads).way s.distance h.at));
+          least = few;
+          home = (λ t. led.0 (sym says ∙ t), λ k. says ∙ led.1 k);
+        }
+      where
+        few : (steps : List (ℕ × ℕ)) → IsDeadEnd n x steps
+            → (d : ℕ) × (Some (s.distance + 1) ≡ Some d) × (d ≤ length steps)
+        few [] d = absurd (subst (Among s.group) d.none (nearest_is s is).listed)
+        few (t ∷ rest) d =
+            let r = nearest_least t rest d in
+            let same = ap (λ (s : Step). s.distance) (same_Some _ _ (sym is ∙ r.1)) in
+            (s.distance + 1, refl, let l = r.2 in omega arith)
+
 -- THE WAYS FROM ALL EXCHANGES
 
 -- the marks of the dead ends alone
@@ -196,11 +187,11 @@ marks_first n kept e = record {
 
 pub marks_next : (n : Net) (ends : List ℕ) (kept : List Ways) (x : ℕ) → x < n.exchanges
     → AreDeadEndsKept n ends kept
-    → AreDeadEndsKept n (ends ++ x ∷ []) (set kept x dead_end_alone)
+    → AreDeadEndsKept n (ends ++ x ∷ []) (set kept x (dead_end_at x))
 marks_next n ends kept x within k = record {
-  long = length-set kept x dead_end_alone ∙ k.long;
+  long = length-set kept x (dead_end_at x) ∙ k.long;
   dead = λ y m. elim (cases_eq y x) [
-    | inl q ↦ ap (ways_in (set kept x dead_end_alone)) q ∙ here
+    | inl q ↦ ap (ways_in (set kept x (dead_end_at x))) q ∙ here ∙ ap dead_end_at (sym q)
     | inr ne ↦ other y ne ∙ k.dead y (elim (among_cases y ends (x ∷ []) m) [
       | inl a ↦ a
       | inr l ↦ elim l [ inl e ↦ absurd (ne (sym e)) | inr z ↦ absurd z ]
@@ -212,29 +203,32 @@ marks_next n ends kept x within k = record {
   ];
 }
   where
-    here : ways_in (set kept x dead_end_alone) x ≡ dead_end_alone
-    here = get_or-set_same kept x dead_end_alone home_alone (let l = k.long in omega arith)
+    here : ways_in (set kept x (dead_end_at x)) x ≡ dead_end_at x
+    here = get_or-set_same kept x (dead_end_at x) home_alone (let l = k.long in omega arith)
 
-    other : (y : ℕ) → y ≢ x → ways_in (set kept x dead_end_alone) y ≡ ways_in kept y
-    other y ne = get_or-set_other kept x y dead_end_alone home_alone ne
+    other : (y : ℕ) → y ≢ x → ways_in (set kept x (dead_end_at x)) y ≡ ways_in kept y
+    other y ne = get_or-set_other kept x y (dead_end_at x) home_alone ne
 
 -- the ways that are kept: of the dead ends, of the first exchanges of the order, and of each that
 -- leads to no dead end
-pub record AreKept (n : Net) (order ends : List ℕ) (i : ℕ) (kept : List Ways) : Type 0 where
+pub record AreKept (n : Net) (legs : List Leg) (order ends : List ℕ) (i : ℕ) (kept : List Ways)
+    : Type 0 where
   pub long : length kept ≡ n.exchanges
-  pub dead : (x : ℕ) → Among x ends → AreWaysFrom n x (ways_in kept x)
-  pub first : (x : ℕ) → Among x (take i order) → AreWaysFrom n x (ways_in kept x)
-  pub uncut : (x : ℕ) → Among x order → (LeadsToDeadEnd n x → ⊥) → AreWaysFrom n x (ways_in kept x)
+  pub dead : (x : ℕ) → Among x ends → AreWaysFrom n legs x (ways_in kept x)
+  pub first : (x : ℕ) → Among x (take i order) → AreWaysFrom n legs x (ways_in kept x)
+  pub uncut : (x : ℕ) → Among x order → (LeadsToDeadEnd n x → ⊥) → AreWaysFrom n legs x (ways_in kept x)
 
-module _ (n : Net) (order ends : List ℕ) (o : IsOrder n order) (dead : AreDeadEnds n order ends) where
-  ways_none : (x : ℕ) → Among x ends → AreWaysFrom n x dead_end_alone
+module _ (n : Net) (legs : List Leg) (order ends : List ℕ) (o : IsOrder n order) (dead : AreDeadEnds n order ends) where
+  ways_none : (x : ℕ) → Among x ends → AreWaysFrom n legs x (dead_end_at x)
   ways_none x m =
       let d = dead.dead x m in
       record {
-        distance = record {
-          way = λ k e. ([], record { goes = tt; away = d.1; none = d.2 }, same_Some _ _ e);
-          least = λ steps w. (0, refl, omega arith);
-        };
+        way = λ k e. subst (λ c. IsWayBy n legs x c 0 x) (same_Some _ _ e) (record {
+          dead = record { goes = tt; away = d.1; none = d.2 };
+          long = refl;
+          ends = refl;
+        });
+        least = λ steps w. (0, refl, omega arith);
         home = (λ t. absurd (false≢true t), λ h. absurd (on h.steps h.goes h.home d.1 d.2));
       }
     where
@@ -244,19 +238,17 @@ module _ (n : Net) (order ends : List ℕ) (o : IsOrder n order) (dead : AreDead
       on (t ∷ rest) go home away none = subst (Among t.0) none go.1
 
   module _ (leads : (x g : ℕ) → Among g (n.list x) → (y : ℕ) × (n.far g x ≡ Some y)) where
-    ways_home : (x : ℕ) → Among x order → (LeadsToDeadEnd n x → ⊥) → AreWaysFrom n x home_alone
+    ways_home : (x : ℕ) → Among x order → (LeadsToDeadEnd n x → ⊥) → AreWaysFrom n legs x home_alone
     ways_home x m uncut = record {
-      distance = record {
-        way = λ k e. absurd (none-some _ e);
-        least = λ steps d. absurd (uncut (steps, d));
-      };
+      way = λ k e. absurd (none-some _ e);
+      least = λ steps d. absurd (uncut (steps, d));
       home = (λ t. uncut_home n leads order o x m uncut, λ h. refl);
     }
 
     -- from the marks of the dead ends
     pub kept_first : (kept : List Ways) (from : ℕ) → AreDeadEndsKept n ends kept
         → ((x : ℕ) → Among x (take from order) → LeadsToDeadEnd n x → Among x ends)
-        → AreKept n order ends from kept
+        → AreKept n legs order ends from kept
     kept_first kept from k before = record {
       long = k.long;
       dead = at_end;
@@ -269,20 +261,20 @@ module _ (n : Net) (order ends : List ℕ) (o : IsOrder n order) (dead : AreDead
       uncut = free;
     }
       where
-        at_end : (x : ℕ) → Among x ends → AreWaysFrom n x (ways_in kept x)
-        at_end x m = subst (AreWaysFrom n x) (sym (k.dead x m)) (ways_none x m)
+        at_end : (x : ℕ) → Among x ends → AreWaysFrom n legs x (ways_in kept x)
+        at_end x m = subst (AreWaysFrom n legs x) (sym (k.dead x m)) (ways_none x m)
 
-        free : (x : ℕ) → Among x order → (LeadsToDeadEnd n x → ⊥) → AreWaysFrom n x (ways_in kept x)
-        free x m uncut = subst (AreWaysFrom n x) (sym (k.other x (λ a.
+        free : (x : ℕ) → Among x order → (LeadsToDeadEnd n x → ⊥) → AreWaysFrom n legs x (ways_in kept x)
+        free x m uncut = subst (AreWaysFrom n legs x) (sym (k.other x (λ a.
             let d = dead.dead x a in
             uncut ([], record { goes = tt; away = d.1; none = d.2 }))))
             (ways_home x m uncut)
 
   module _ (kept : List Ways) (i x : ℕ) (at : slice_get order i ≡ Some x)
-      (k : AreKept n order ends i kept) where
+      (k : AreKept n legs order ends i kept) where
     -- the exchanges to which a list leads were looked at before
     pub known : x ≢ n.home → (g y : ℕ) → Among g (n.list x) → n.far g x ≡ Some y
-        → AreWaysFrom n y (ways_in kept y)
+        → AreWaysFrom n legs y (ways_in kept y)
     known away g y m leads = k.first y (o.back i x at away g y m leads)
 
     -- and are nearer than exchanges come before
@@ -290,15 +282,16 @@ module _ (n : Net) (order ends : List ℕ) (o : IsOrder n order) (dead : AreDead
     few_steps away s is =
         let h = nearest_is n kept x s is in
         let before = o.back i x at away s.group s.to h.listed h.leads in
-        let w = (k.first s.to before).distance.way s.distance h.at in
-        let d = w.1 in
-        let f = way_few n order o i s.to w.0 before d.goes in
-        let c = w.2 in
+        let w = (k.first s.to before).way s.distance h.at in
+        let f = way_few n order o i s.to _ before w.dead.goes in
+        let c = w.long in
         omega arith
 
-    -- one more
-    pub kept_next : (w : Ways) → AreWaysFrom n x w → AreKept n order ends (i + 1) (set kept x w)
-    kept_next w is = record {
+    -- one more, with its leg
+    pub kept_next : x ≢ n.home → (s : Step) → nearest_step n kept x ≡ Some s → (home : Bool)
+        → home ≡ has_way_home n kept x → AreKept n (legs ++ leg_of kept s ∷ []) order ends (i + 1)
+        (set kept x (ways_after kept legs s home))
+    kept_next away s is home says = record {
       long = length-set kept x w ∙ k.long;
       dead = λ y m. one y (λ ne. k.dead y m);
       first = λ y m. one y (λ ne. k.first y (elim (among_cases y (take i order) (x ∷ [])
@@ -309,35 +302,28 @@ module _ (n : Net) (order ends : List ℕ) (o : IsOrder n order) (dead : AreDead
       uncut = λ y m u. one y (λ ne. k.uncut y m u);
     }
       where
+        w : Ways
+        w = ways_after kept legs s home
+
+        more : List Leg
+        more = legs ++ leg_of kept s ∷ []
+
         within : x < length kept
         within = let l = k.long in let h = o.within x (among_at order i x at) in omega arith
 
-        one : (y : ℕ) → (y ≢ x → AreWaysFrom n y (ways_in kept y))
-            → AreWaysFrom n y (ways_in (set kept x w) y)
+        one : (y : ℕ) → (y ≢ x → AreWaysFrom n legs y (ways_in kept y))
+            → AreWaysFrom n more y (ways_in (set kept x w) y)
         one y old = elim (cases_eq y x) [
-          | inl q ↦ subst (λ z. AreWaysFrom n z (ways_in (set kept x w) z)) (sym q)
-              (subst (AreWaysFrom n x) (sym (get_or-set_same kept x w home_alone within)) is)
-          | inr ne ↦ subst (AreWaysFrom n y)
-              (sym (get_or-set_other kept x y w home_alone ne)) (old ne)
+          | inl q ↦ subst (λ z. AreWaysFrom n more z (ways_in (set kept x w) z)) (sym q)
+              (subst (AreWaysFrom n more x) (sym (get_or-set_same kept x w home_alone within))
+              (ways_by n kept x legs (known away) away s is home says))
+          | inr ne ↦ subst (AreWaysFrom n more y)
+              (sym (get_or-set_other kept x y w home_alone ne))
+              (ways_more n legs (leg_of kept s ∷ []) y (ways_in kept y) (old ne))
         ]
 
-    -- with the nearest step to a dead end
-    pub kept_step : x ≢ n.home → (s : Step) → nearest_step n kept x ≡ Some s → (home : Bool)
-        → home ≡ has_way_home n kept x
-        → AreKept n order ends (i + 1) (set kept x (record {
-          dead_end = Some (s.distance + 1);
-          home = home;
-        }))
-    kept_step away s is home says =
-        let on = known away in
-        let led = led_home n kept x on away in
-        kept_next (record { dead_end = Some (s.distance + 1); home = home }) (record {
-          distance = measured n kept x on away s is;
-          home = (λ t. led.0 (sym says ∙ t), λ h. says ∙ led.1 h);
-        })
-
     -- without a step to a dead end it leads to none, or is one
-    pub kept_same : nearest_step n kept x ≡ None → AreKept n order ends (i + 1) kept
+    pub kept_same : nearest_step n kept x ≡ None → AreKept n legs order ends (i + 1) kept
     kept_same none = record {
       long = k.long;
       dead = k.dead;
@@ -345,7 +331,7 @@ module _ (n : Net) (order ends : List ℕ) (o : IsOrder n order) (dead : AreDead
           (subst (Among y) (take_next order i x at) m)) [
             | inl a ↦ k.first y a
             | inr l ↦ elim l [
-              | inl e ↦ subst (λ z. AreWaysFrom n z (ways_in kept z)) e here
+              | inl e ↦ subst (λ z. AreWaysFrom n legs z (ways_in kept z)) e here
               | inr z ↦ absurd z
             ]
           ];
@@ -359,9 +345,9 @@ module _ (n : Net) (order ends : List ℕ) (o : IsOrder n order) (dead : AreDead
         off apart [] d = apart (dead.all x m d.away d.none)
         off apart (t ∷ rest) d =
             let go = d.goes in
-            none-some _ (sym none ∙ (nearest_least n kept x (known go.0) t rest d).1)
+            none-some _ (sym none ∙ (nearest_least n kept x legs (known go.0) t rest d).1)
 
-        here : AreWaysFrom n x (ways_in kept x)
+        here : AreWaysFrom n legs x (ways_in kept x)
         here = elim (is_among x ends) [
           | inl a ↦ k.dead x a
           | inr apart ↦ k.uncut x m (λ d. off apart d.0 d.1)

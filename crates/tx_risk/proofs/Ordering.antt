@@ -1,10 +1,12 @@
 -- Ranked exchanges, by their ranks.
-use Rattle.tx_risk.proofs.Common.{◌≡◌, ◌≢◌, ℕ, zero, suc, ◌+◌, ◌<◌, ◌≤◌, nat_lt, true, false, not, List, [], ◌∷◌, inl, inr, length, take, Option, Some, None, refl, sym, ap, ◌∙◌, subst, arith, range_with_len, Among, Net, Goes, end_of, none_any, any_mem, Risk, left_of, without, LeadsHome, IsOrder, IsByRank, rank_or_0, is_above, AreDeadEnds, LeadsToDeadEnd}
+use Rattle.tx_risk.proofs.Common.{◌≡◌, ◌≢◌, ℕ, zero, suc, ◌+◌, ◌<◌, ◌≤◌, nat_lt, Bool, true, false, not, List, [], ◌∷◌, inl, inr, length, take, Option, Some, None, refl, sym, ap, ◌∙◌, subst, arith, range_with_len, Among, Net, Goes, end_of, none_any, any_mem, Risk, left_of, without, LeadsHome, IsOrder, IsByRank, rank_or_0, is_above, AreDeadEnds, LeadsToDeadEnd}
 use Rattle.std.specs.Prelude.{slice_get, slice_index_or, unwrap_or, is_some, filter, IsPermutation}
 use Rattle.std.specs.List.Sorted.{IsNonDecreasingBy, IsPartitionedBy, IsPartitionPoint}
 use Rattle.std.proofs.lemmas.Bool.{cases_lt, cases_eq, false≢true, ltb-true, ltb-false, not-true}
 use Rattle.std.proofs.lemmas.Option.{slice_get_within, get_or_from_slice_get}
-use Rattle.std.proofs.lemmas.List.Sorted.{Contains-permutation, IsPermutation-sym}
+use Rattle.std.proofs.lemmas.List.Sorted.{Contains-permutation, IsPermutation-sym, length_permutation}
+use Rattle.std.proofs.lemmas.List.Filters.{length-filter_both}
+use Rattle.std.proofs.lemmas.List.FromFn.{length-range_with_len}
 use Rattle.tx_plan.proofs.Among.{among_filter, filter_among, among_at}
 use Rattle.tx_rank.specs.Nets.{IsNet, Certifies}
 use Rattle.tx_rank.proofs.Ranks.{Falls, one_down, all_down}
@@ -45,6 +47,7 @@ module _ (risk : Risk) (n : Net) where
 
   pub order_left : (order : List ℕ) → IsOrder n order → IsOrder (without risk n) order
   order_left order o = record {
+    few = o.few;
     within = o.within;
     reached = λ x r. o.reached x (record {
       start = r.start;
@@ -172,6 +175,12 @@ module _ (n : Net) (net : IsNet n) (ranks : ℕ → Option ℕ) (limit spare : �
 
   pub by_rank : IsPermutation ranked order → IsNonDecreasingBy (rank_or_0 ranks) order → IsOrder n order
   by_rank p rising = record {
+    few =
+        let t : ℕ → Bool = λ x. is_some (ranks x) in
+        let all = length-filter_both t (λ x. not (t x)) (λ x. refl) (range_with_len 0 n.exchanges) in
+        let long = length_permutation ranked order p in
+        let range = length-range_with_len 0 n.exchanges in
+        omega arith;
     within = λ x m. let l = range_among 0 n.exchanges x (of_ranked p x m).0 in omega arith;
     reached = λ x r.
         let o = cert.origins r.start r.walk.origin in

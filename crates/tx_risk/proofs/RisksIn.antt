@@ -1,9 +1,9 @@
 -- Risks of one plan as risks of another.
-use Rattle.tx_risk.proofs.Common.{◌≡◌, ◌≢◌, ◌<◌, ◌+◌, ◌∙◌, ℕ, zero, suc, false, List, [], ◌∷◌, ◌++◌, map, take, get_or, length, Option, Some, None, refl, sym, ap, bytes_eq, map-append, take_more, Plan, group_name, group_named, EachPair}
+use Rattle.tx_risk.proofs.Common.{◌≡◌, ◌≢◌, ◌<◌, ◌+◌, ◌∙◌, ℕ, zero, suc, Bool, false, List, [], ◌∷◌, ◌++◌, map, take, get_or, length, Option, Some, None, refl, sym, ap, bytes_eq, map-append, take_more, Plan, group_name, group_named, EachPair}
 use Rattle.std.specs.List.{AllByRecursion, filter_map, cons_option, list_any, slice_get}
 use Rattle.std.proofs.lemmas.List.Elements.{filter_map-append}
 use Rattle.tx_plan.proofs.ByIndex.{all_at, take_next, bytes_apart, entry_at, index_within}
-use Rattle.tx_risk.specs.NamedRisks.{NamedRisk, AreRisksFor, AreWithin, risk_name, named_groups, risk_in, risks_in}
+use Rattle.tx_risk.specs.NamedRisks.{NamedRisk, AreRisksFor, AreWithin, risk_name, named_groups, names_unknown, risk_in, risks_in}
 
 -- what is found of one element more
 pub found_next : (h : ℕ → Option ℕ) (xs : List ℕ) (i x : ℕ) (o : Option ℕ) (old new : List ℕ)
@@ -35,33 +35,37 @@ module _ (q p : Plan) where
       rw (r.1, e) (fresh_at risks i r.0 ok.differ r.1)
 
   -- one risk more
-  pub risks_next : (risks old new : List NamedRisk) (i : ℕ) (groups : List ℕ) → i < length risks
+  pub risks_next : (risks old new : List NamedRisk) (i : ℕ) (groups : List ℕ)
+      (unknown : Bool) → i < length risks
       → old ≡ map (risk_in q p) (take i risks)
       → groups ≡ filter_map (λ g. group_named p (group_name q g)) (named_groups risks i)
-      → new ≡ old ++ record { name = risk_name risks i; groups = groups } ∷ []
+      → unknown ≡ names_unknown risks i
+      → new ≡ old ++ record { name = risk_name risks i; groups = groups; unknown = unknown } ∷ []
       → new ≡ map (risk_in q p) (take (i + 1) risks)
-  risks_next risks old new i groups low so is more =
+  risks_next risks old new i groups unknown low so is told more =
       let r = entry_at risks i low in
       let one : groups ≡ (risk_in q p r.0).groups = rw r.1 at is in
       let name : risk_name risks i ≡ r.0.name = rw r.1 refl in
-      more ∙ ap (λ l. l ++ record { name = risk_name risks i; groups = groups } ∷ []) so
-      ∙ (λ k. map (risk_in q p) (take i risks) ++ record { name = name k; groups = one k } ∷ [])
+      let others : unknown ≡ r.0.unknown = rw r.1 at told in
+      more ∙ ap (λ l. l ++ record { name = risk_name risks i; groups = groups; unknown = unknown } ∷ []) so
+      ∙ (λ k. map (risk_in q p) (take i risks)
+      ++ record { name = name k; groups = one k; unknown = others k } ∷ [])
       ∙ sym (map-append (risk_in q p) (take i risks) (r.0 ∷ []))
       ∙ ap (map (risk_in q p)) (sym (take_next risks i r.0 r.1))
 
-  -- THEIR GROUPS ARE THE PLAN'S
+module _ (p : Plan) where
+  -- THE GROUPS THAT NAMES NAME ARE THE PLAN'S
   found_more : (name rest : List ℕ) → AllByRecursion (λ g. g < length p.groups) rest
       → (o : Option ℕ) → group_named p name ≡ o
       → AllByRecursion (λ g. g < length p.groups) (cons_option o rest)
   found_more name rest h None e = h
   found_more name rest h (Some g) e = (index_within _ p.groups g e, h)
 
-  found_within : (gs : List ℕ) → AllByRecursion (λ g. g < length p.groups)
-      (filter_map (λ g. group_named p (group_name q g)) gs)
-  found_within [] = tt
-  found_within (g ∷ gs) =
-      found_more (group_name q g) _ (found_within gs) (group_named p (group_name q g)) refl
+  pub named_within : {A : Type 0} (f : A → List ℕ) (xs : List A)
+      → AllByRecursion (λ g. g < length p.groups) (filter_map (λ x. group_named p (f x)) xs)
+  named_within f [] = tt
+  named_within f (x ∷ xs) = found_more (f x) _ (named_within f xs) (group_named p (f x)) refl
 
-  pub all_within : (risks : List NamedRisk) → AreWithin p (risks_in q p risks)
-  all_within [] = tt
-  all_within (r ∷ risks) = (found_within r.groups, all_within risks)
+pub all_within : (q p : Plan) (risks : List NamedRisk) → AreWithin p (risks_in q p risks)
+all_within q p [] = tt
+all_within q p (r ∷ risks) = (named_within p (group_name q) r.groups, all_within q p risks)

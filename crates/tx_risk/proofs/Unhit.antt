@@ -1,5 +1,5 @@
 -- A code of which some group of each list is left is cut off from nowhere.
-use Rattle.tx_risk.proofs.Common.{◌≡◌, ◌≢◌, ℕ, ◌+◌, ◌<◌, ◌⊎◌, ◌==◌, true, false, not, ◌&&◌, List, [], ◌∷◌, inl, inr, length, Option, Some, None, refl, sym, ap, ◌∙◌, subst, arith, eq-eqb, and_parts, both_ways, not-true, ne_eqb, eqb-false, cases_eq, slice_get, filter, is_some, if◌then◌else◌, option_and_then, option_map_or, list_any, route_list, is_origin_for, Ranks, IsCertified, Among, filter_among, among_filter, none_any, Goes, end_of, is_net, Outage, Group, Exchange, Named, NamedRisk, risk_of, fails_at, Left, IsLeft, gone, left_net, IsByRank, AreDeadEnds, AreCuts, AreEnds, TakesItsGroups, is_emptied}
+use Rattle.tx_risk.proofs.Common.{◌≡◌, ◌≢◌, ℕ, ◌+◌, ◌<◌, ◌⊎◌, ◌==◌, true, false, not, ◌&&◌, List, [], ◌∷◌, inl, inr, length, Option, Some, None, refl, sym, ap, ◌∙◌, subst, arith, eq-eqb, and_parts, both_ways, not-true, ne_eqb, eqb-false, cases_eq, slice_get, filter, is_some, if◌then◌else◌, option_and_then, option_map_or, list_any, route_list, is_origin_for, Ranks, IsCertified, Among, filter_among, among_filter, none_any, Goes, end_of, is_net, Leg, Outage, Group, Exchange, Named, NamedRisk, risk_of, fails_at, Left, IsLeft, gone, left_net, IsByRank, AreDeadEnds, AreCuts, AreEnds, TakesItsGroups, is_emptied}
 use Rattle.tx_plan.specs.Plan.{Plan, Group as Row, home_of}
 use Rattle.tx_plan.specs.Circuits.{other_end, far_end, ends_of}
 use Rattle.tx_risk.specs.Risks.{Risk, groups_of, left_of, net_without}
@@ -155,10 +155,10 @@ module _ (l : Left) (is : IsLeft l) (ends : List ℕ) (all : AreEnds l.plan (gon
             (k.0, k.1, left_none (gone l) (route_list l.plan x l.code) a)
 
     -- where none but the exchange that fails is emptied, nobody in question is cut off
-    pub unhit : {A : Type 0} (o : Outage) → TakesItsGroups l.plan (gone l) o
+    pub unhit : (o : Outage) (legs : List Leg) → TakesItsGroups l.plan (gone l) o
         → list_any (λ x. not (fails_at o x)) (filter (is_emptied l) ends) ≡ false
-        → AreCuts {A = A} l o []
-    unhit o takes none = record {
+        → AreCuts l o legs []
+    unhit o legs takes none = record {
       each = λ c m. absurd m;
       asked = λ c m. absurd m;
       order = tt;

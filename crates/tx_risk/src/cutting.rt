@@ -1,5 +1,5 @@
 // From where a risk cuts off a code.
-ghost use Rattle.std.specs.Prelude.{◌≡◌, ◌<◌, ◌+◌, ℕ, List, length, take, IfOk};
+ghost use Rattle.std.specs.Prelude.{◌≡◌, ◌<◌, ◌≤◌, ◌+◌, ◌^◌, ℕ, List, length, take, IfOk};
 ghost use Rattle.tx_plan.specs.Among.{Among};
 ghost use Rattle.tx_plan.specs.Certified.{IsCertified};
 ghost use Rattle.tx_cert.specs.Certificate.{ranks_of};
@@ -7,18 +7,18 @@ ghost use Rattle.tx_rank.specs.Judged.{AreOrigins};
 ghost use Rattle.tx_risk.specs.Outages.{is_asked, fails_at};
 ghost use Rattle.tx_risk.specs.Survivals.{HasGrade};
 ghost use Rattle.tx_risk.specs.declared.cut.Cut.{Cut};
+ghost use Rattle.tx_risk.specs.declared.cut.Leg.{Leg};
 ghost use Rattle.tx_risk.specs.inner.Left.{gone, left_net};
 ghost use Rattle.tx_risk.specs.inner.Orders.{IsOrder, IsByRank, is_above};
 ghost use Rattle.tx_risk.specs.inner.Hits.{AreEnds, TakesItsGroups};
-ghost use Rattle.tx_risk.specs.inner.Nearest.{AreDeadEnds, LeadsToDeadEnd, AreAllWays};
+ghost use Rattle.tx_risk.specs.inner.Nearest.{AreDeadEnds, LeadsToDeadEnd, AreAllWays, Grows};
 ghost use Rattle.tx_risk.specs.inner.Cutting.{Adds, AreCuts, AreCutsBefore};
 
-use crate::cut::Cut;
+use crate::cut::{Cut, Leg};
 use crate::hits::{emptied, is_hit};
 use crate::left::Left;
 use crate::nearest::{Ways, ways_at, ways_of};
 use crate::outage::Outage;
-use crate::shortest::walk_from;
 use std::alloc::Allocator;
 use tx_cert::Cert;
 use tx_plan::{CodeId, ExchangeId};
@@ -35,35 +35,36 @@ pub fn is_failing(outage: &Outage, exchange: ExchangeId) -> bool
 }
 
 /// Adds the cut from an exchange, if there is one and it is in question.
-fn add_cut<A: Allocator + Copy>(
-    alloc: A,
+fn add_cut<A: Allocator>(
     left: &Left<'_, A>,
     origins: &[bool],
     outage: &Outage,
     kept: &[Ways],
     exchange: ExchangeId,
-    cuts: &mut Vec<Cut<A>, A>,
+    cuts: &mut Vec<Cut, A>,
 ) -> Result<(), NoMemory>
     requires exchange { exchange < length left.now.plan.exchanges }
     requires grade { HasGrade left.now.plan }
     requires origins { AreOrigins left.now.plan origins.now }
-    requires ways { AreAllWays (left_net left.now) kept.now }
-    ensures { IfOk result (λ _. (first : List (Cut A))
-        → Adds (AreCutsBefore left.now outage.now exchange) first cuts.old.items
-        → Adds (AreCutsBefore left.now outage.now (exchange + 1)) first cuts.new.items) }
+    ensures { IfOk result (λ _. (legs : List Leg) → AreAllWays (left_net left.now) legs kept.now
+        → (first : List Cut)
+        → Adds (AreCutsBefore left.now outage.now legs exchange) first cuts.old.items
+        → Adds (AreCutsBefore left.now outage.now legs (exchange + 1)) first cuts.new.items) }
 {
     let ways = ways_at(kept, exchange);
-    if ways.dead_end.is_none() {
+    let Some(steps) = ways.dead_end else {
         return Ok(());
-    }
+    };
     if !is_asked(left, origins, outage, exchange) {
         return Ok(());
     }
-    let walk = walk_from(alloc, left, kept, exchange)?;
     cuts.push(Cut {
         code: left.code,
+        start: exchange,
+        end: ways.end,
+        first: ways.first,
+        steps,
         stray: ways.home,
-        walk,
     })?;
     Ok(())
 }
@@ -118,7 +119,8 @@ fn not_above<A: Allocator>(
     order.partition_point(|exchange| !is_above(ranks, code, *exchange, dead_ends))
 }
 
-/// Adds the cuts of one code, in order of the exchanges, where these are the ends of groups that go.
+/// Adds the cuts of one code, in order of the exchanges, where these are the ends of groups that go,
+/// and the legs of their walks.
 /// There are none where only the exchange that fails is emptied.
 pub fn add_cuts<A: Allocator + Copy>(
     alloc: A,
@@ -128,7 +130,8 @@ pub fn add_cuts<A: Allocator + Copy>(
     ends: &[ExchangeId],
     origins: &[bool],
     outage: &Outage,
-    cuts: &mut Vec<Cut<A>, A>,
+    cuts: &mut Vec<Cut, A>,
+    legs: &mut Vec<Leg, A>,
 ) -> Result<(), NoMemory>
     requires certified { (limit : ℕ) × (spare : ℕ)
         × IsCertified left.now.plan (ranks_of ranks.now) limit spare }
@@ -137,7 +140,10 @@ pub fn add_cuts<A: Allocator + Copy>(
     requires ends { AreEnds left.now.plan (gone left.now) (length left.now.plan.groups) ends.now }
     requires takes { TakesItsGroups left.now.plan (gone left.now) outage.now }
     requires origins { AreOrigins left.now.plan origins.now }
-    ensures { IfOk result (λ _. Adds (AreCuts left.now outage.now) cuts.old.items cuts.new.items) }
+    requires room { length legs.old.items + 256 ≤ 2 ^ 32 }
+    ensures cuts { IfOk result (λ _.
+        Adds (AreCuts left.now outage.now legs.new.items) cuts.old.items cuts.new.items) }
+    ensures grown { IfOk result (λ _. Grows legs.old.items legs.new.items) }
 {
     let exchanges = left.exchanges();
     let dead_ends = emptied(alloc, left, ends)?;
@@ -145,10 +151,10 @@ pub fn add_cuts<A: Allocator + Copy>(
         return Ok(());
     }
     let from = not_above(ranks, left, &dead_ends, order);
-    let kept = ways_of(alloc, left, &dead_ends, order, from)?;
+    let kept = ways_of(alloc, left, &dead_ends, order, from, legs)?;
     for index in 0..exchanges {
         let exchange = ExchangeId::of(index);
-        add_cut(alloc, left, origins, outage, &kept, exchange, cuts)?;
+        add_cut(left, origins, outage, &kept, exchange, cuts)?;
     }
     Ok(())
 }

@@ -1,38 +1,37 @@
 // What each line of a text of risks declares.
-ghost use Rattle.std.specs.Prelude.{◌≡◌, false, not, map, IfOk, IfErr, OnOk, OnErr};
-ghost use Rattle.std.specs.List.{list_any};
+ghost use Rattle.std.specs.Prelude.{◌≡◌, false, IfOk, IfErr, OnOk, OnErr};
+ghost use Rattle.std.specs.List.{list_any, filter_map};
 ghost use Rattle.std.specs.Str.{bytes_eq};
 ghost use Rattle.tx_text.specs.Said.{Declared};
-ghost use Rattle.tx_plan.specs.Declaring.{has_group, group_at};
-ghost use Rattle.tx_risk.specs.RiskText.{declare, is_memory, risk_by, risk_line, with_risk};
+ghost use Rattle.tx_plan.specs.Plan.{group_named};
+ghost use Rattle.tx_risk.specs.RiskText.{declare, is_memory, has_unknown, risk_by, risk_line, with_risk};
 
 use crate::fault::RiskWord;
-use crate::risks::Risks;
+use crate::risks::{Risks, Row};
 use std::alloc::Allocator;
 use tx_plan::{GroupId, NameKey, Plan};
 use tx_text::{NoMemory, Words, is_name};
 
 /// Whether one of the words names no group.
 fn has_unknown<A: Allocator>(plan: &Plan<A>, mut words: Words<'_>) -> bool
-    ensures { result ≡ list_any (λ w. not (has_group plan.now w)) words.entry }
+    ensures { result ≡ has_unknown plan.now words.entry }
 {
     words.any(|word| plan.group_named(word).is_none())
 }
 
-/// The groups that the words name.
+/// The groups of the plan that the words name.
 fn groups_of<A: Allocator + Copy>(
     alloc: A,
     plan: &Plan<A>,
     mut words: Words<'_>,
 ) -> Result<Vec<GroupId, A>, NoMemory>
-    requires { list_any (λ w. not (has_group plan.now w)) words ≡ false }
-    ensures { IfOk result (λ groups. groups.items ≡ map (group_at plan.now) words.entry) }
+    ensures { IfOk result (λ groups. groups.items ≡ filter_map (group_named plan.now) words.entry) }
 {
     let mut groups = Vec::new(alloc);
     while let Some(word) = words.next() {
         match plan.group_named(word) {
             Some(group) => groups.push(group)?,
-            None => unreachable!(),
+            None => {}
         }
     }
     Ok(groups)
@@ -46,24 +45,25 @@ fn add_risk<A: Allocator + Copy>(
     name: NameKey,
     words: Words<'_>,
 ) -> Result<(), NoMemory>
-    requires fresh { list_any (λ r. bytes_eq name r.name) risks.old ≡ false }
-    requires known { list_any (λ w. not (has_group plan.now w)) words ≡ false }
+    requires { list_any (λ r. bytes_eq name r.name) risks.old ≡ false }
     ensures ok { OnOk result (risks.new ≡ with_risk plan.now risks.old name words.entry) }
     ensures same { OnErr result (risks.new ≡ risks.old) }
 {
+    let unknown = has_unknown(plan, words.again());
     let groups = groups_of(alloc, plan, words)?;
-    risks.add(name, groups)
+    risks.add(name, Row { groups, unknown })
 }
 
 /// A name of its own, and its groups.
 fn risk_by<A: Allocator + Copy>(
     alloc: A,
     plan: &Plan<A>,
+    version: u8,
     risks: &mut Risks<A>,
     name: &[u8],
     words: Words<'_>,
 ) -> Result<(), RiskWord>
-    ensures declared { Declared is_memory (risk_by plan.now risks.old name.now words.entry)
+    ensures declared { Declared is_memory (risk_by plan.now version risks.old name.now words.entry)
         risks.new result }
     ensures same { IfErr result (λ _. risks.new ≡ risks.old) }
 {
@@ -74,7 +74,7 @@ fn risk_by<A: Allocator + Copy>(
     if risks.has(&own) {
         return Err(RiskWord::Duplicate);
     }
-    if has_unknown(plan, words.again()) {
+    if version == 1 && has_unknown(plan, words.again()) {
         return Err(RiskWord::UnknownName);
     }
     if !words.again().none_twice() {
@@ -87,11 +87,12 @@ fn risk_by<A: Allocator + Copy>(
 fn risk_line<A: Allocator + Copy>(
     alloc: A,
     plan: &Plan<A>,
+    version: u8,
     risks: &mut Risks<A>,
     mut words: Words<'_>,
 ) -> Result<(), RiskWord>
-    ensures declared { Declared is_memory (risk_line plan.now risks.old words.entry) risks.new
-        result }
+    ensures declared { Declared is_memory (risk_line plan.now version risks.old words.entry)
+        risks.new result }
     ensures same { IfErr result (λ _. risks.new ≡ risks.old) }
 {
     let Some(name) = words.next() else {
@@ -100,7 +101,7 @@ fn risk_line<A: Allocator + Copy>(
     if words.again().next().is_none() {
         return Err(RiskWord::WrongCount);
     }
-    risk_by(alloc, plan, risks, name, words)
+    risk_by(alloc, plan, version, risks, name, words)
 }
 
 /// Declares what the line does under a header of this version, after the lines before it. A line
@@ -121,7 +122,7 @@ pub(crate) fn declare<A: Allocator + Copy>(
         return Err(RiskWord::UnknownWord);
     };
     if first == b"RISK".as_slice() {
-        return risk_line(alloc, plan, risks, words);
+        return risk_line(alloc, plan, version, risks, words);
     }
     if first == b"END".as_slice() {
         return Err(RiskWord::WrongCount);

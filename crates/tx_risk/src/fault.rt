@@ -16,7 +16,7 @@ pub enum RiskWord {
     BadName,
     /// Q4: a risk of the name was declared before.
     Duplicate,
-    /// Q5: the plan has no such group.
+    /// Q5: the plan has no such group, under a header of version 1.
     UnknownName,
     /// Q6: a group is there twice.
     RepeatedGroup,

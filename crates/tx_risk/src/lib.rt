@@ -18,11 +18,10 @@ mod outage;
 mod outages;
 mod risk_reader;
 mod risks;
-mod shortest;
 mod side;
 mod surviving;
 
-pub use cut::{Cut, Outcome};
+pub use cut::{Cut, Leg, Outcome};
 pub use fault::{RiskFault, RiskWord, code_and_name};
 pub use law::{
     clear_calls_get_through, cut_is_short, dead_ends_cut, failed_cuts_no_other,

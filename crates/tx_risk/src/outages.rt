@@ -6,11 +6,11 @@ ghost use Rattle.tx_cert.specs.Certificate.{ranks_of};
 ghost use Rattle.tx_rank.specs.Judged.{AreOrigins};
 ghost use Rattle.tx_risk.specs.NamedRisks.{AreWithin};
 ghost use Rattle.tx_risk.specs.declared.outage.Outage.TheVariants.{Group, Exchange, Named};
-ghost use Rattle.tx_risk.specs.Outages.{risk_of, all_outages, AreCutsOf, AreOutcomes};
+ghost use Rattle.tx_risk.specs.Outages.{risk_of, all_outages, IsOutcome, AreOutcomes};
 ghost use Rattle.tx_risk.specs.inner.Marked.{marked};
 ghost use Rattle.tx_risk.specs.inner.Orders.{AreOrders};
 
-use crate::cut::{Cut, Outcome};
+use crate::cut::Outcome;
 use crate::cutting::add_cuts;
 use crate::hits::ends_of;
 use crate::left::Left;
@@ -59,26 +59,28 @@ fn marks_of<A: Allocator + Copy>(
 }
 
 /// Whom an outage cuts off, code by code.
-fn cuts_of<A: Allocator + Copy>(
+fn outcome_of<A: Allocator + Copy>(
     alloc: A,
     plan: &Plan<A>,
     ranks: &Cert<A>,
     risks: &Risks<A>,
     orders: &[Vec<ExchangeId, A>],
     origins: &[bool],
-    outage: &Outage,
-) -> Result<Vec<Cut<A>, A>, NoMemory>
+    outage: Outage,
+) -> Result<Outcome<A>, NoMemory>
     requires certified { (limit : ℕ) × (spare : ℕ)
         × IsCertified plan.now (ranks_of ranks.now) limit spare }
     requires orders { AreOrders plan.now (ranks_of ranks.now) orders.now }
     requires origins { AreOrigins plan.now origins.now }
-    requires known { (g : ℕ) → risk_of plan.now risks.now outage.now g ≡ true
+    requires known { (g : ℕ) → risk_of plan.now risks.now outage g ≡ true
         → g < length plan.now.groups }
-    ensures { IfOk result (λ cuts. AreCutsOf plan.now risks.now outage.now cuts.items) }
+    ensures outage { IfOk result (λ o. o.outage ≡ outage) }
+    ensures outcome { IfOk result (IsOutcome plan.now risks.now) }
 {
-    let gone = marks_of(alloc, plan, risks, outage)?;
+    let gone = marks_of(alloc, plan, risks, &outage)?;
     let ends = ends_of(alloc, plan, &gone)?;
     let mut cuts = Vec::new(alloc);
+    let mut legs = Vec::new(alloc);
     for index in 0..plan.codes() {
         let left = Left {
             plan,
@@ -92,11 +94,12 @@ fn cuts_of<A: Allocator + Copy>(
             &orders[index],
             &ends,
             origins,
-            outage,
+            &outage,
             &mut cuts,
+            &mut legs,
         )?;
     }
-    Ok(cuts)
+    Ok(Outcome { outage, cuts, legs })
 }
 
 /// Adds the named risks.
@@ -171,8 +174,8 @@ pub fn all_outcomes<A: Allocator + Copy>(
     let mut outcomes = Vec::new(alloc);
     for i in 0..outages.len() {
         let outage = outages[i];
-        let cuts = cuts_of(alloc, plan, ranks, risks, &orders, &origins, &outage)?;
-        outcomes.push(Outcome { outage, cuts })?;
+        let outcome = outcome_of(alloc, plan, ranks, risks, &orders, &origins, outage)?;
+        outcomes.push(outcome)?;
     }
     Ok(outcomes)
 }

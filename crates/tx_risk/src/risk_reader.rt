@@ -87,7 +87,7 @@ pub fn read_risks_from<R: Source, A: Allocator + Copy>(
     ensures calls { CallsAtMost R.called source_calls source.old source.new }
     ensures fits { IfOk result (λ risks. AreRisksFor plan.now risks) }
 {
-    let lines = read_text(alloc, b"RISKS", 1, RiskLines::new(alloc, plan), source)?;
+    let lines = read_text(alloc, b"RISKS", 2, RiskLines::new(alloc, plan), source)?;
     Ok(lines.finish())
 }
 
@@ -102,6 +102,6 @@ pub fn read_risks<A: Allocator + Copy>(
         (λ n. declares_line plan.now n AtEnd text.now ≡ true) (told_fault result) }
     ensures fits { IfOk result (λ risks. AreRisksFor plan.now risks) }
 {
-    let lines = read_slice(alloc, b"RISKS", 1, RiskLines::new(alloc, plan), text)?;
+    let lines = read_slice(alloc, b"RISKS", 2, RiskLines::new(alloc, plan), text)?;
     Ok(lines.finish())
 }

@@ -3,7 +3,8 @@ ghost use Rattle.std.specs.Prelude.{◌≡◌, ◌<◌, ◌^◌, ◌++◌, ◌�
 ghost use Rattle.std.specs.List.{list_any, filter_map};
 ghost use Rattle.std.specs.Str.{bytes_eq};
 ghost use Rattle.tx_plan.specs.Plan.{group_name, group_named};
-ghost use Rattle.tx_risk.specs.NamedRisks.{risk_name, named_groups, AreRisksFor, AreWithin, risks_in};
+ghost use Rattle.tx_risk.specs.inner.Rows.{risk_of_row};
+ghost use Rattle.tx_risk.specs.NamedRisks.{risk_name, named_groups, names_unknown, AreRisksFor, AreWithin, risks_in};
 
 use indexmap::IndexMap;
 use std::alloc::{Allocator, Global};
@@ -11,9 +12,16 @@ use std::marker::Model;
 use tx_plan::{ByWord, GroupId, NameKey, Plan};
 use tx_text::NoMemory;
 
+/// The groups of a risk, and whether it names others too, which the plan has not.
+#[derive(Drop)]
+pub(crate) struct Row<A: Allocator> {
+    pub(crate) groups: Vec<GroupId, A>,
+    pub(crate) unknown: bool,
+}
+
 /// Risks in order: each has a name, and groups that may go together, such as those of one cable.
 pub struct Risks<A: Allocator = Global> {
-    rows: IndexMap<NameKey, Vec<GroupId, A>, ByWord, A>,
+    rows: IndexMap<NameKey, Row<A>, ByWord, A>,
 }
 
 impl<A: Allocator> Drop for Risks<A> {
@@ -52,8 +60,9 @@ impl<A: Allocator + Copy> Risks<A> {
         let mut risks = Risks::none(alloc);
         for index in 0..self.len() {
             let name = NameKey::new(self.name(index));
+            let unknown = self.has_unknown(index);
             let groups = groups_over(alloc, plan, other, self.groups(index))?;
-            risks.add(name, groups)?;
+            risks.add(name, Row { groups, unknown })?;
         }
         Ok(risks)
     }
@@ -110,19 +119,29 @@ impl<A: Allocator> Risks<A> {
         ensures { result.now ≡ named_groups self.now index }
     {
         match self.rows.get_index(index) {
-            Some((_, groups)) => groups.as_slice(),
+            Some((_, row)) => row.groups.as_slice(),
             None => &[],
         }
     }
 
+    /// Whether the risk at an index names groups that the plan has not.
+    pub fn has_unknown(&self, index: usize) -> bool
+        ensures { result ≡ names_unknown self.now index }
+    {
+        match self.rows.get_index(index) {
+            Some((_, row)) => row.unknown,
+            None => false,
+        }
+    }
+
     /// Appends a risk.
-    pub(crate) fn add(&mut self, name: NameKey, groups: Vec<GroupId, A>) -> Result<(), NoMemory>
+    pub(crate) fn add(&mut self, name: NameKey, row: Row<A>) -> Result<(), NoMemory>
         requires { list_any (λ r. bytes_eq name r.name) self.old ≡ false }
         ensures ok { OnOk result (self.new
-            ≡ self.old ++ record { name = name; groups = groups.items } ∷ []) }
+            ≡ self.old ++ risk_of_row (name, row) ∷ []) }
         ensures err { OnErr result (self.new ≡ self.old) }
     {
-        self.rows.insert(name, groups)?;
+        self.rows.insert(name, row)?;
         Ok(())
     }
 }

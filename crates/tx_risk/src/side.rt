@@ -1,11 +1,10 @@
 // What outages cut off in one of two plans, beside the other one.
-ghost use Rattle.std.specs.Prelude.{◌≡◌, length};
+ghost use Rattle.std.specs.Prelude.{◌≡◌};
 ghost use Rattle.std.specs.List.{AllByRecursion};
-ghost use Rattle.tx_risk.specs.Outages.{start_at};
-ghost use Rattle.tx_risk.specs.Compared.{AreInOrder, place_in, cuts_in, stray_at, stray_named, stray_in, is_worse_than, is_other_than, has_worse};
+ghost use Rattle.tx_risk.specs.Compared.{AreInOrder, place_in, cuts_in, legs_in, stray_at, stray_named, stray_in, is_worse_than, is_other_than, has_worse};
 ghost use Rattle.tx_risk.specs.inner.InOrder.{comes_before, stray_of};
 
-use crate::cut::{Cut, Outcome};
+use crate::cut::{Cut, Leg, Outcome};
 use crate::outage::Outage;
 use crate::risks::Risks;
 use std::alloc::Allocator;
@@ -48,11 +47,12 @@ impl<'a, A: Allocator> Side<'a, A> {
 
     /// The place here of an outage of a network, by its name.
     fn place(&self, network: &Plan<A>, risks: &Risks<A>, outage: &Outage) -> Option<usize>
-        ensures { result ≡ place_in network.now self.now.plan (length risks.now) outage.now }
+        ensures { result ≡ place_in network.now self.now.plan risks.now outage.now }
     {
         let named = risks.len();
         match outage {
-            Outage::Named(index) => Some(*index),
+            Outage::Named(index) if *index < named => Some(*index),
+            Outage::Named(_) => None,
             Outage::Group(group) => {
                 let group = self.plan.group_named(network.group_name(*group))?;
                 Some(named + group.index())
@@ -65,8 +65,8 @@ impl<'a, A: Allocator> Side<'a, A> {
     }
 
     /// Whom an outage of a network cuts off here: nobody, if the plan does not have it.
-    pub fn cuts(&self, network: &Plan<A>, risks: &Risks<A>, outage: &Outage) -> &[Cut<A>]
-        ensures cuts { result.now ≡ cuts_in network.now (length risks.now) self.now outage.now }
+    pub fn cuts(&self, network: &Plan<A>, risks: &Risks<A>, outage: &Outage) -> &[Cut]
+        ensures cuts { result.now ≡ cuts_in network.now risks.now self.now outage.now }
         ensures order { AreInOrder result.now }
     {
         let Some(place) = self.place(network, risks, outage) else {
@@ -77,17 +77,30 @@ impl<'a, A: Allocator> Side<'a, A> {
             None => &[],
         }
     }
+
+    /// The legs of their walks.
+    pub fn legs(&self, network: &Plan<A>, risks: &Risks<A>, outage: &Outage) -> &[Leg]
+        ensures { result.now ≡ legs_in network.now risks.now self.now outage.now }
+    {
+        let Some(place) = self.place(network, risks, outage) else {
+            return &[];
+        };
+        match self.outcomes.get(place) {
+            Some(outcome) => outcome.legs.as_slice(),
+            None => &[],
+        }
+    }
 }
 
 /// Whether a cut comes before a code and a start.
-fn comes_before<A: Allocator>(cut: &Cut<A>, code: CodeId, start: ExchangeId) -> bool
+fn comes_before(cut: &Cut, code: CodeId, start: ExchangeId) -> bool
     ensures { result ≡ comes_before code start cut.now }
 {
-    cut.code.index() < code.index() || (cut.code == code && cut.walk.start.index() < start.index())
+    cut.code.index() < code.index() || (cut.code == code && cut.start.index() < start.index())
 }
 
 /// The cut of a code from a start: whether it is stray, if there is one.
-fn stray_at<A: Allocator>(cuts: &[Cut<A>], code: CodeId, start: ExchangeId) -> Option<bool>
+fn stray_at(cuts: &[Cut], code: CodeId, start: ExchangeId) -> Option<bool>
     requires { AreInOrder cuts.now }
     ensures { result ≡ stray_at cuts.now code start }
 {
@@ -99,27 +112,20 @@ fn stray_at<A: Allocator>(cuts: &[Cut<A>], code: CodeId, start: ExchangeId) -> O
 }
 
 /// Whether a cut is stray, if it is of a code and a start.
-fn stray_of<A: Allocator>(cut: &Cut<A>, code: CodeId, start: ExchangeId) -> Option<bool>
+fn stray_of(cut: &Cut, code: CodeId, start: ExchangeId) -> Option<bool>
     ensures { result ≡ stray_of code start cut.now }
 {
-    if cut.code == code && cut.walk.start == start {
+    if cut.code == code && cut.start == start {
         Some(cut.stray)
     } else {
         None
     }
 }
 
-/// Where the calls start that a cut cuts off.
-fn start_of<A: Allocator>(cut: &Cut<A>) -> ExchangeId
-    ensures { result ≡ start_at cut.now }
-{
-    cut.walk.start
-}
-
 /// The cut of a code from a start, by their names: whether it is stray, if there is one.
 fn stray_named<A: Allocator>(
     plan: &Plan<A>,
-    cuts: &[Cut<A>],
+    cuts: &[Cut],
     figures: &[u8],
     start: &[u8],
 ) -> Option<bool>
@@ -132,22 +138,17 @@ fn stray_named<A: Allocator>(
 }
 
 /// What cuts of another plan are for the code and the start of a cut, by their names.
-fn stray_in<A: Allocator>(
-    plan: &Plan<A>,
-    other: &Plan<A>,
-    cuts: &[Cut<A>],
-    cut: &Cut<A>,
-) -> Option<bool>
+fn stray_in<A: Allocator>(plan: &Plan<A>, other: &Plan<A>, cuts: &[Cut], cut: &Cut) -> Option<bool>
     requires { AreInOrder cuts.now }
     ensures { result ≡ stray_in plan.now other.now cuts.now cut.now }
 {
     let figures = plan.code_figures(cut.code);
-    stray_named(other, cuts, figures, plan.exchange_name(start_of(cut)))
+    stray_named(other, cuts, figures, plan.exchange_name(cut.start))
 }
 
 /// Whether a cut is worse than what cuts of another plan are for its start: than none, or a stray
 /// one if it is not stray.
-fn is_worse<A: Allocator>(plan: &Plan<A>, other: &Plan<A>, cuts: &[Cut<A>], cut: &Cut<A>) -> bool
+fn is_worse<A: Allocator>(plan: &Plan<A>, other: &Plan<A>, cuts: &[Cut], cut: &Cut) -> bool
     requires { AreInOrder cuts.now }
     ensures { result ≡ is_worse_than (stray_in plan.now other.now cuts.now cut.now) cut.now }
 {
@@ -158,12 +159,7 @@ fn is_worse<A: Allocator>(plan: &Plan<A>, other: &Plan<A>, cuts: &[Cut<A>], cut:
 }
 
 /// Whether a cut is another one than what cuts of another plan are for its start.
-pub fn is_other<A: Allocator>(
-    plan: &Plan<A>,
-    other: &Plan<A>,
-    cuts: &[Cut<A>],
-    cut: &Cut<A>,
-) -> bool
+pub fn is_other<A: Allocator>(plan: &Plan<A>, other: &Plan<A>, cuts: &[Cut], cut: &Cut) -> bool
     requires { AreInOrder cuts.now }
     ensures { result ≡ is_other_than (stray_in plan.now other.now cuts.now cut.now) cut.now }
 {
@@ -177,8 +173,8 @@ pub fn is_other<A: Allocator>(
 pub fn has_worse<A: Allocator>(
     plan: &Plan<A>,
     other: &Plan<A>,
-    mine: &[Cut<A>],
-    others: &[Cut<A>],
+    mine: &[Cut],
+    others: &[Cut],
 ) -> bool
     requires { AreInOrder others.now }
     ensures { result ≡ has_worse plan.now other.now mine.now others.now }

@@ -6,13 +6,14 @@ use Rattle.tx_rank.specs.declared.bounds.Bounds.{Bounds}
 use Rattle.tx_rank.specs.declared.plan_grade.Grade.{Grade}
 use Rattle.tx_rank.specs.GradeText.{grade_text}
 use Rattle.tx_rank.specs.Report.{verdict_line}
-use Rattle.tx_risk.specs.Compared.{Side, cuts_in, stray_in, is_other_than, has_worse}
+use Rattle.tx_risk.specs.Compared.{Side, cuts_in, legs_in, stray_in, is_other_than, has_worse}
 use Rattle.tx_risk.specs.declared.cut.Cut.{Cut}
+use Rattle.tx_risk.specs.declared.cut.Leg.{Leg}
 use Rattle.tx_risk.specs.declared.outage.Outage.{Outage}
 use Rattle.tx_risk_report.specs.declared.comparison.Comparison.{Comparison}
 use Rattle.tx_risk_report.specs.declared.totals.Kind.{Kind}
 use Rattle.tx_risk_report.specs.declared.totals.Kind.TheVariants.{Risks, Groups, Exchanges}
-use Rattle.tx_risk_report.specs.OutageReport.{head_line, outage_words, is_of, harmless_line, counts_text, cut_line}
+use Rattle.tx_risk_report.specs.OutageReport.{head_text, outage_words, is_of, harmless_line, counts_text, cut_line}
 
 -- how the new plan stands to the old one, and a blank
 abbrev pub change_word : (worse better : Bool) → List ℕ
@@ -32,19 +33,23 @@ abbrev pub grades_line : (new old : Bounds) → List ℕ
 grades_line new old = change_word (is_lower new old) (is_lower old new) ++ (codes "GRADE"
     ++ (bounds_words new ++ (codes " WAS" ++ (bounds_words old ++ codes "\n"))))
 
+-- the lines of those cuts of p that are other ones than what cuts of q are for their starts
+abbrev pub other_line : List ℕ → (p q : Plan) → List Leg → List Cut → Cut → List ℕ
+other_line head p q legs others c =
+    if is_other_than (stray_in p q others c) c then head ++ cut_line p legs c else []
+
+abbrev pub other_lines : List ℕ → (p q : Plan) → List Leg → (mine others : List Cut) → List ℕ
+other_lines head p q legs mine others = flat_map (other_line head p q legs others) mine
+
 module _ {A : Type 0} where
-  -- the lines of those cuts of p that are other ones than what cuts of q are for their starts
-  abbrev pub other_line : List ℕ → (p q : Plan) → List (Cut A) → Cut A → List ℕ
-  other_line head p q others c =
-      if is_other_than (stray_in p q others c) c then head ++ cut_line p c else []
-
-  abbrev pub other_lines : List ℕ → (p q : Plan) → (mine others : List (Cut A)) → List ℕ
-  other_lines head p q mine others = flat_map (other_line head p q others) mine
-
   module _ (c : Comparison A) where
     -- whom an outage cuts off in one of the plans
-    abbrev pub cuts_of : Side A → Outage → List (Cut A)
-    cuts_of side o = cuts_in c.network.now (length c.risks.now) side o
+    abbrev pub cuts_of : Side A → Outage → List Cut
+    cuts_of side o = cuts_in c.network.now c.risks.now side o
+
+    -- the legs of their walks
+    abbrev pub legs_of : Side A → Outage → List Leg
+    legs_of side o = legs_in c.network.now c.risks.now side o
 
     -- somebody is worse off in the new plan
     abbrev pub is_worse : Outage → Bool
@@ -77,8 +82,9 @@ module _ {A : Type 0} where
     abbrev pub compared_block : Outage → List ℕ
     compared_block o = if is_worse o || is_better o
         then outage_words c.network.now c.risks.now o ++ (codes "\n"
-        ++ (other_lines [] c.new.plan c.old.plan (cuts_of c.new o) (cuts_of c.old o)
-        ++ other_lines (codes "WAS ") c.old.plan c.new.plan (cuts_of c.old o) (cuts_of c.new o)))
+        ++ (other_lines [] c.new.plan c.old.plan (legs_of c.new o) (cuts_of c.new o) (cuts_of c.old o)
+        ++ other_lines (codes "WAS ") c.old.plan c.new.plan (legs_of c.old o) (cuts_of c.old o)
+        (cuts_of c.new o)))
         else []
 
     -- how many lines say that the new plan is worse
@@ -87,7 +93,7 @@ module _ {A : Type 0} where
 
     -- the grades, how many starts each outage cuts off, where the plans differ, and the verdict
     abbrev pub compared_text : (new old : Bounds) → List ℕ
-    compared_text new old = head_line (length c.outages.now) ++ (grades_line new old
+    compared_text new old = head_text c.risks.now (length c.outages.now) ++ (grades_line new old
         ++ (flat_map compared_total c.outages.now ++ (free_text
         ++ (flat_map compared_block c.outages.now ++ verdict_line (worse_count new old)))))
 

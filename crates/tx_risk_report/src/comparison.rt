@@ -1,10 +1,10 @@
 // The writer of what the outages of two plans cut off.
-ghost use Rattle.std.specs.Prelude.{◌≡◌};
+ghost use Rattle.std.specs.Prelude.{◌≡◌, count_by};
 ghost use Rattle.std.specs.List.{flat_map};
 ghost use Rattle.tx_text.specs.Puts.{Puts};
 ghost use Rattle.tx_text.specs.Wrote.{Wrote};
 ghost use Rattle.tx_risk.specs.Compared.{AreInOrder};
-ghost use Rattle.tx_risk_report.specs.Comparison.{change_word, is_lower, bounds_words, grades_line, cuts_of, is_worse, is_better, is_free, compared_total, free_of, free_text, worse_count, compared_text, comparison_text, is_against};
+ghost use Rattle.tx_risk_report.specs.Comparison.{change_word, is_lower, bounds_words, grades_line, cuts_of, legs_of, is_worse, is_better, is_free, compared_total, free_of, free_text, worse_count, compared_text, comparison_text, is_against};
 
 use crate::differing::write_compared_blocks;
 use crate::outage_report::{write_head, write_outage};
@@ -13,7 +13,7 @@ use itoa::Buffer;
 use std::alloc::Allocator;
 use tx_plan::Plan;
 use tx_rank::{Bounds, Grade, write_grade};
-use tx_risk::{Cut, Outage, Risks, Side, has_worse};
+use tx_risk::{Cut, Leg, Outage, Risks, Side, has_worse};
 use tx_text::{Sink, WriteFault, finish, put_bytes, put_parts, write_bytes};
 
 /// Two plans, a network that has what either of them has, named risks over it, and the outages of
@@ -73,7 +73,7 @@ fn write_compared<A: Allocator, W: Sink>(
 )
     ensures { Puts W.taken W.failed sink.old sink.new (compared_text comparison.now new old) }
 {
-    write_head(comparison.outages.len(), sink);
+    write_head(comparison.risks, comparison.outages.len(), sink);
     write_grades(new, old, sink);
     write_compared_totals(comparison, sink);
     write_free(comparison, sink);
@@ -151,7 +151,7 @@ fn is_free<A: Allocator>(comparison: &Comparison<'_, A>, outage: &Outage) -> boo
 pub(crate) fn both_cuts<'a, A: Allocator>(
     comparison: &'a Comparison<'_, A>,
     outage: &Outage,
-) -> (&'a [Cut<A>], &'a [Cut<A>])
+) -> (&'a [Cut], &'a [Cut])
     ensures new { result.0.now ≡ cuts_of comparison.now comparison.now.new outage.now }
     ensures new_order { AreInOrder result.0.now }
     ensures old { result.1.now ≡ cuts_of comparison.now comparison.now.old outage.now }
@@ -160,6 +160,20 @@ pub(crate) fn both_cuts<'a, A: Allocator>(
     let (network, risks) = (comparison.network, comparison.risks);
     let new = comparison.new.cuts(network, risks, outage);
     let old = comparison.old.cuts(network, risks, outage);
+    (new, old)
+}
+
+/// The legs of their walks.
+pub(crate) fn both_legs<'a, A: Allocator>(
+    comparison: &'a Comparison<'_, A>,
+    outage: &Outage,
+) -> (&'a [Leg], &'a [Leg])
+    ensures new { result.0.now ≡ legs_of comparison.now comparison.now.new outage.now }
+    ensures old { result.1.now ≡ legs_of comparison.now comparison.now.old outage.now }
+{
+    let (network, risks) = (comparison.network, comparison.risks);
+    let new = comparison.new.legs(network, risks, outage);
+    let old = comparison.old.legs(network, risks, outage);
     (new, old)
 }
 
@@ -217,14 +231,31 @@ fn count_free<A: Allocator>(comparison: &Comparison<'_, A>, kind: Kind) -> usize
         .count()
 }
 
+/// After how many outages somebody is worse off in the new plan.
+pub fn count_worse_outages<A: Allocator>(comparison: &Comparison<'_, A>) -> usize
+    ensures { result ≡ count_by (is_worse comparison.now) comparison.now.outages.now }
+{
+    comparison
+        .outages
+        .iter()
+        .filter(|outage| is_worse(comparison, outage))
+        .count()
+}
+
+/// After how many somebody was worse off in the old one.
+pub fn count_better_outages<A: Allocator>(comparison: &Comparison<'_, A>) -> usize
+    ensures { result ≡ count_by (is_better comparison.now) comparison.now.outages.now }
+{
+    comparison
+        .outages
+        .iter()
+        .filter(|outage| is_better(comparison, outage))
+        .count()
+}
+
 /// How many lines say that the new plan is worse.
 fn count_worse<A: Allocator>(comparison: &Comparison<'_, A>, new: Bounds, old: Bounds) -> u128
     ensures { result ≡ worse_count comparison.now new old }
 {
-    let outages = comparison
-        .outages
-        .iter()
-        .filter(|outage| is_worse(comparison, outage))
-        .count();
-    outages as u128 + u128::from(is_lower(new, old))
+    count_worse_outages(comparison) as u128 + u128::from(is_lower(new, old))
 }

@@ -1,8 +1,9 @@
 // The writer of what outages cut off.
-ghost use Rattle.std.specs.List.{flat_map};
+ghost use Rattle.std.specs.Prelude.{length};
+ghost use Rattle.std.specs.List.{flat_map, range_with_len};
 ghost use Rattle.tx_text.specs.Puts.{Puts};
 ghost use Rattle.tx_text.specs.Wrote.{Wrote};
-ghost use Rattle.tx_risk_report.specs.OutageReport.{head_line, outage_words, block_text, tried_text, survival_text};
+ghost use Rattle.tx_risk_report.specs.OutageReport.{head_line, unknown_line, head_text, outage_words, block_text, tried_text, survival_text};
 
 use crate::cut_lines::write_cuts;
 use crate::totals::{count_all, is_harmless, write_harmless, write_totals, write_verdict};
@@ -42,20 +43,45 @@ fn write_tried<A: Allocator, W: Sink>(
     ensures { Puts W.taken W.failed sink.old sink.new
         (tried_text plan.now risks.now outcomes.now) }
 {
-    write_head(outcomes.len(), sink);
+    write_head(risks, outcomes.len(), sink);
     write_totals(plan, risks, outcomes, sink);
     write_harmless(outcomes, sink);
     write_blocks(plan, risks, outcomes, sink);
     write_verdict(count_all(outcomes), sink);
 }
 
-pub(crate) fn write_head<W: Sink>(count: usize, sink: &mut W)
+/// Writes how many outages were tried, and each risk that names groups which the plan has not.
+pub(crate) fn write_head<A: Allocator, W: Sink>(risks: &Risks<A>, count: usize, sink: &mut W)
+    ensures { Puts W.taken W.failed sink.old sink.new (head_text risks.now count) }
+{
+    write_count(count, sink);
+    write_unknown(risks, sink);
+}
+
+fn write_count<W: Sink>(count: usize, sink: &mut W)
     ensures { Puts W.taken W.failed sink.old sink.new
         (head_line count) }
 {
     let mut buffer = Buffer::new();
     let count = buffer.format(count).as_bytes();
     put_parts(&[b"SURVIVE RISKS ", count, b"\n"], sink);
+}
+
+fn write_unknown<A: Allocator, W: Sink>(risks: &Risks<A>, sink: &mut W)
+    ensures { Puts W.taken W.failed sink.old sink.new
+        (flat_map (unknown_line risks.now) (range_with_len 0 (length risks.now))) }
+{
+    for index in 0..risks.len() {
+        write_unknown_line(risks, index, sink);
+    }
+}
+
+fn write_unknown_line<A: Allocator, W: Sink>(risks: &Risks<A>, index: usize, sink: &mut W)
+    ensures { Puts W.taken W.failed sink.old sink.new (unknown_line risks.now index) }
+{
+    if risks.has_unknown(index) {
+        put_parts(&[b"RISK ", risks.name(index), b" PARTLY KNOWN\n"], sink)
+    }
 }
 
 /// Writes what fails.
@@ -107,5 +133,5 @@ fn write_block<A: Allocator, W: Sink>(
     }
     write_outage(plan, risks, &outcome.outage, sink);
     put_bytes(b"\n", sink);
-    write_cuts(plan, &outcome.cuts, sink);
+    write_cuts(plan, &outcome.legs, &outcome.cuts, sink);
 }

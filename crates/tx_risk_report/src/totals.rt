@@ -45,7 +45,7 @@ fn write_total<A: Allocator, W: Sink>(
 }
 
 /// Writes how many starts are cut off, without a way home and with one.
-pub(crate) fn write_counts<A: Allocator, W: Sink>(cuts: &[Cut<A>], sink: &mut W)
+pub(crate) fn write_counts<W: Sink>(cuts: &[Cut], sink: &mut W)
     ensures { Puts W.taken W.failed sink.old sink.new (counts_text cuts.now) }
 {
     let mut cut = Buffer::new();
@@ -56,14 +56,14 @@ pub(crate) fn write_counts<A: Allocator, W: Sink>(cuts: &[Cut<A>], sink: &mut W)
 }
 
 /// How many starts are cut off without a way home.
-pub fn count_cut<A: Allocator>(cuts: &[Cut<A>]) -> usize
+pub fn count_cut(cuts: &[Cut]) -> usize
     ensures { result ≡ cut_off cuts.now }
 {
     cuts.iter().filter(|cut| !cut.stray).count()
 }
 
 /// How many with one.
-pub fn count_stray<A: Allocator>(cuts: &[Cut<A>]) -> usize
+pub fn count_stray(cuts: &[Cut]) -> usize
     ensures { result ≡ astray cuts.now }
 {
     cuts.iter().filter(|cut| cut.stray).count()

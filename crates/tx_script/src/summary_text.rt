@@ -42,6 +42,7 @@ fn write_ended<A: Allocator, W: Sink>(counts: &Counts<A>, sink: &mut W)
 }
 
 /// Writes the peak of each group that was used.
+#[tactic(auto, using(tx_text::proofs::Putting::puts_none, tx_text::proofs::Ranges::index_more, tx_text::proofs::Ranges::indexes_done))]
 fn write_peaks<A: Allocator, B: Allocator, W: Sink>(
     counts: &Counts<A>,
     plan: &Plan<B>,

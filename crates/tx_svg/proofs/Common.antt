@@ -1,8 +1,8 @@
 -- The names that most proofs here cite, passed on from one place. Declares nothing.
-pub use Rattle.std.proofs.Common.{[], ap, arith, length, map, sym, take, ◌∙◌, ◌≡◌}
+pub use Rattle.std.proofs.Common.{[], map, take, ◌≡◌}
 pub use Rattle.std.specs.Prelude.{unwrap_or}
 pub use Rattle.tx_cert.specs.Certificate.{ranks_of}
-pub use Rattle.tx_html.proofs.Showing.{sets_is, sets_none, sets_then}
+pub use Rattle.tx_html.proofs.Showing.{sets_is, sets_then}
 pub use Rattle.tx_html.specs.Shows.{Sets}
 pub use Rattle.tx_plan.specs.Plan.{group_name}
 pub use Rattle.tx_svg.specs.Indexed.{texts_below}

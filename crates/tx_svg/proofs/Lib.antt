@@ -1,3 +1,4 @@
 pub mod Indexed
 pub mod Ranked
+pub mod Texts
 pub mod Common

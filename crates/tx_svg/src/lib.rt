@@ -1,6 +1,6 @@
 //! The pictures on a page, in SVG: the lists for each code, and the network. `picture_of` says where
 //! the exchanges of a code stand, in points.
-#![tactic(auto)]
+#![tactic(auto, using(crate::proofs::Texts::showing))]
 
 mod arrows;
 mod boxes;

@@ -218,22 +218,7 @@ module _ (p : Plan) (ok : IsPlan p) (down : List ℕ) where
     accepted_left (LineBack l) h = (refl, refl)
 
     refusal_left : (e : Event) → is_blocking e ≡ false → refusal q (unblocked s) e ≡ refusal p s e
-    refusal_left (Key line keyed) h = refl
-    refusal_left (Route n) h = refl
-    refusal_left (Confirm n) h = refl
-    refusal_left (Clear n Caller) h = refl
-    refusal_left (Clear n Called) h = refl
-    refusal_left (Released x) h = refl
-    refusal_left (Fail g) h = refl
-    refusal_left (Restore g) h = refl
-    refusal_left (Block g) h = absurd (false≢true (sym h))
-    refusal_left (Unblock g) h = absurd (false≢true (sym h))
-    refusal_left (CircuitOut x) h = refl
-    refusal_left (CircuitIn x) h = refl
-    refusal_left (LineFault l) h = refl
-    refusal_left (LineMend l) h = refl
-    refusal_left (LineAway l) h = refl
-    refusal_left (LineBack l) h = refl
+    refusal_left e h = grind arith
 
     unless_left : (o : Option Refusal) (l r : Reply × State) → AsLeft l r
         → AsLeft (unless_refused o (unblocked s) (counted l)) (unless_refused o s (counted r))

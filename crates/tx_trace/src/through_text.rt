@@ -44,6 +44,7 @@ fn name_of<'a, A: Allocator>(plan: &'a Plan<A>, through: &Through) -> &'a [u8]
     }
 }
 
+#[tactic(auto, using(tx_text::proofs::Putting::puts_none, tx_text::proofs::Putting::puts_more, tx_text::proofs::Putting::puts_all))]
 fn write_calls<A: Allocator, W: Sink>(plan: &Plan<A>, calls: &[Pair], sink: &mut W)
     ensures { Puts W.taken W.failed sink.old sink.new (flat_map (call_line plan.now) calls.now) }
 {

@@ -1,4 +1,6 @@
 // The writer of the calls that go another way than in an old plan.
+#![tactic(auto, using(tx_text::proofs::Putting::puts_none, tx_text::proofs::Putting::puts_more, tx_text::proofs::Putting::puts_all))]
+
 ghost use Rattle.std.specs.Prelude.{map};
 ghost use Rattle.std.specs.List.{AllByRecursion, flat_map};
 ghost use Rattle.tx_text.specs.Puts.{Puts};

@@ -1,20 +1,12 @@
 -- `refuses` at a call: what it is handed. Assumes `Logic`.
-use Rattle.std.proofs.Common.{◌≡◌, ℕ, List, [], ◌∷◌, refl, ap}
-use seplogic.Ra.Ura.{Ura}
-use mir.Val.{Val, vunit, vptr}
+use Rattle.tx_worked.proofs.Common.{◌≡◌, ℕ, List, [], ◌∷◌, refl, ap, Ura, Val, vunit, vptr, Lft, Share, ftrue, fsep, flft, Memory, Routine, Fun, nothing, only, triple_of}
 use base.Logic.{SProp, ent, sep, guard, id⊢}
-use base.Fml.{Lft, Share, ftrue, fsep, flft}
-use prog.Memory.{Memory}
-use prog.Routine.{Routine}
 use types.Logic.{Logic, sem}
-use contract.Monad.{Fun}
 use types.Kit.{‵, ◌⊛◌, some, later, ◌$◌, ◌∵◌, !, qed, move, keep, use1, split, join, pick, fjoin, feq_i, feq_l, check, await, updating, now as at_once, done}
 use denote.RattleType.{RattleType}
 use denote.Memory.{hidden_shr}
 use denote.Builtin.{u64, unit}
-use denote.Steps.{nothing, only}
 use denote.Triple.Statement.{Contract}
-use denote.Triple.Spec.{triple_of}
 use Rattle.std.specs.contracts.cell.Cell as CE
 use Rattle.tx_worked.specs.contracts.cases.refusing.refuses as TK
 

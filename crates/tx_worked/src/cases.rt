@@ -30,6 +30,6 @@ pub(crate) use reader::Reader;
 pub(crate) use refusing::Refusing;
 pub(crate) use spelled::spell;
 pub(crate) use stop::{Stop, tell_stop};
-pub(crate) use task::{Task, command_of, is_command};
+pub(crate) use task::{MOMENT, Task, command_of, is_command};
 pub(crate) use told::{Told, tell, tell_broken, tell_count, tell_parts};
 pub(crate) use writer::Writer;

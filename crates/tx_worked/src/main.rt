@@ -12,7 +12,8 @@
 //!   each event before its reply, and has the status 1 where one was refused; `telling summary`
 //!   tells a summary instead, and `telling both` both. `both` has them in one, which is played in
 //!   both ways. `codes`, `grade` and `audit L K` have a plan, `check L K` a plan and a certificate,
-//!   `checked L K` (a run after a Yes) these and a script. An audit writes after its report the
+//!   `checked L K` (a run after a Yes) and `checked-telling L K` (which tells both) these and a
+//!   script. An audit writes after its report the
 //!   certificate that it found, or the script of the first finding that has one. `change L K` has
 //!   an old plan and a new one, and writes after its report the certificate, or the mixture of the
 //!   first finding that has a walk, and its script. `order L K` has an old plan and a new one, and

@@ -16,6 +16,7 @@ use memchr::memmem;
 use std::alloc::Global;
 use tx_commands::{Command, RunRequest};
 use tx_files::{CommandFault, write_command_fault};
+use tx_plan::Limits;
 
 /// Plays a case of texts by its kind: as a job, or by writing and reading back, or over both
 /// networks, or by calls of the crates below the jobs.
@@ -61,8 +62,7 @@ fn play_over(alloc: Global, head: Head<'_>, text: Script<'_>, out: &mut Told) {
     }
 }
 
-/// Tries that a script writes over the plain network what the job writes, which runs it over the
-/// engine.
+/// Tries that a script writes over the plain network what the job writes over the engine.
 fn try_plain(alloc: Global, run: Task<'_>, job: &[u8], out: &mut Told) {
     let text = Script::opening(run.first, run.second);
     let did = done(alloc, Work::Run(text), Ends::pieces(4096), job);
@@ -70,6 +70,24 @@ fn try_plain(alloc: Global, run: Task<'_>, job: &[u8], out: &mut Told) {
         let bytes = did.written as u64;
         tell_broken(b"not the same over the plain network, bytes", bytes, out);
     }
+}
+
+/// Tries that a run after a check writes without the job what it writes with it, except the NO, and
+/// refuses each of its requests for memory.
+fn try_checked(alloc: Global, task: Task<'_>, limits: Limits, job: &Whole, out: &mut Told) {
+    let work = Work::Checked(task, limits);
+    let Ok(whole) = Whole::of(alloc, work, Ends::pieces(7)) else {
+        return tell_broken(b"no memory", 0, out);
+    };
+    let is_denied = job.text().starts_with(b"NO ") && whole.text().is_empty();
+    if !is_denied && whole.text() != job.text() {
+        tell_broken(
+            b"not the same without the job, bytes",
+            whole.text().len() as u64,
+            out,
+        );
+    }
+    try_refusals(alloc, work, &whole, out);
 }
 
 /// Writes what a task wrote, and its fault. That the plan has no such exchange, code or group is
@@ -103,6 +121,15 @@ fn play_whole(alloc: Global, task: Task<'_>, whole: &Whole, mode: Mode, out: &mu
     if let Mode::EachEnd = mode {
         try_refusals(alloc, Work::Job(task), whole, out);
         try_ends(alloc, task, whole, out);
+        if let Command::Run(
+            RunRequest {
+                checked: Some((_, limits)),
+                ..
+            },
+        ) = task.command
+        {
+            try_checked(alloc, task, *limits, whole, out);
+        }
     }
 }
 
@@ -129,8 +156,7 @@ fn play_task(alloc: Global, task: Task<'_>, mode: Mode, out: &mut Told) {
     }
 }
 
-/// Plays an input as a pipe, and as a plan and a script, which have to do the same, and tries the
-/// laws of the run.
+/// Plays an input as a pipe, and as a plan and a script, which do the same, and tries the laws.
 fn play_both(alloc: Global, head: Head<'_>, input: &[u8], out: &mut Told) {
     // The plan goes up to and with its first line END.
     let (plan, script) = match memmem::find(input, b"\nEND\n") {

@@ -1,10 +1,12 @@
 // Runs of a script, with the event at which they stop.
-use crate::cases::{Ends, event_word, takes_memory, written_after};
+use crate::cases::{Ends, Task, event_word, takes_memory, written_after};
 use std::alloc::Allocator;
+use tx_audit::{Checked, run_checked};
+use tx_cert::read_cert;
 use tx_engine::Engine;
 use tx_jobs::JobFault;
 use tx_machine::Plain;
-use tx_plan::Plan;
+use tx_plan::{Limits, Plan};
 use tx_plantext::read_plan;
 use tx_script::{RunCause, RunFault, Summary, run};
 use tx_text::{FaultKind, FrameFault, MemorySink, MemorySource};
@@ -40,7 +42,7 @@ impl<'a> Script<'a> {
     }
 }
 
-/// There is no memory for the plan or the network, before the first event.
+/// There is no run: the checker says No, or there is no memory before the first event.
 const NOT_BEGUN: RunFault = RunFault {
     event: 0,
     cause: RunCause::NoMemory,
@@ -91,6 +93,28 @@ pub(crate) fn run_text<A: Allocator + Copy>(
 ) -> Result<Summary, RunFault> {
     let mut source = ends.source(1, text.script);
     run_source(alloc, text, &mut source, out)
+}
+
+/// Runs the script of a task over its plan after a Yes to its certificate, and not after a No.
+pub(crate) fn run_after_yes<A: Allocator + Copy>(
+    alloc: A,
+    task: Task<'_>,
+    limits: Limits,
+    ends: Ends,
+    out: &mut MemorySink,
+) -> Result<Summary, RunFault> {
+    let Ok(plan) = read_plan(alloc, task.first) else {
+        return Err(NOT_BEGUN);
+    };
+    let Ok(cert) = read_cert(alloc, task.second, &plan) else {
+        return Err(NOT_BEGUN);
+    };
+    let (limit, spare) = (limits.limit, limits.spare);
+    let mut source = ends.source(2, task.third);
+    match run_checked(alloc, &plan, &cert, limit, spare, &mut source, out)? {
+        Checked::Ran(summary) => Ok(summary),
+        Checked::Denied(_) => Err(NOT_BEGUN),
+    }
 }
 
 /// A cause as a job tells it.

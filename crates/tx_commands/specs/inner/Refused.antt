@@ -7,19 +7,14 @@ use Rattle.tx_commands.specs.Clashes.{reads_input_twice, overwrites}
 use Rattle.tx_commands.specs.Faults.{has, IsRunInPart}
 use Rattle.tx_commands.specs.declared.command.Command.{Command}
 use Rattle.tx_commands.specs.declared.misuse.Misuse.{Misuse}
-use Rattle.tx_commands.specs.declared.misuse.Misuse.TheVariants.{Together, CheckedTelling, StageMissing, RisksOnly, TraceWords, NoSuchCode, InputTwice, Overwrites, NoMemory}
+use Rattle.tx_commands.specs.declared.misuse.Misuse.TheVariants.{Together, StageMissing, RisksOnly, TraceWords, NoSuchCode, InputTwice, Overwrites, NoMemory}
 
--- `run` has a certificate, and an option by which it prints more
-pub record IsCheckedTelling (name : List ℕ) (found : List Row) : Type 0 where
-  pub run : name ≡ codes "run"
-  pub checked : has found (codes "cert") ≡ true
-  pub telling : (is_set found (codes "strict")
-      || (is_set found (codes "echo") || is_set found (codes "summary"))) ≡ true
-
--- `order` has a file to be made, and no stage
+-- `order` has a file to be made, or words that say where it was stopped, and no stage
 pub record IsStageMissing (name : List ℕ) (found : List Row) : Type 0 where
   pub order : name ≡ codes "order"
-  pub some : (has found (codes "plan") || has found (codes "cert")) ≡ true
+  pub some : ((has found (codes "plan") || has found (codes "cert"))
+      || ((has found (codes "done") || is_set found (codes "back"))
+      || has found (codes "spare-now"))) ≡ true
   pub none : has found (codes "stage") ≡ false
 
 -- `survive` is to try the named risks alone, and none are named
@@ -61,7 +56,6 @@ AskForClash found refusal = (command : Command) × IsFoundIn found command × Is
 -- left open.
 abbrev pub IsRefused : Option (List ℕ × List Row) → Misuse → Type 0
 IsRefused command Together = IsSomeAnd command (λ c. IsRunInPart c.0 c.1)
-IsRefused command CheckedTelling = IsSomeAnd command (λ c. IsCheckedTelling c.0 c.1)
 IsRefused command StageMissing = IsSomeAnd command (λ c. IsStageMissing c.0 c.1)
 IsRefused command RisksOnly = IsSomeAnd command (λ c. IsRisksOnly c.0 c.1)
 IsRefused command TraceWords = IsSomeAnd command (λ c. IsTraceInPart c.0 c.1)

@@ -1,11 +1,13 @@
 -- Where the ways from exchanges lead: how far a dead end is, and whether a way home is left.
-use Rattle.std.specs.Prelude.{◌≡◌, ◌≢◌, ◌↔◌, ℕ, ◌<◌, ◌≤◌, nat_lt, if◌then◌else◌, Bool, true, false, List, [], length, map, fold, Option, Some, None, get_or}
+use Rattle.std.specs.Prelude.{◌≡◌, ◌≢◌, ◌↔◌, ℕ, ◌<◌, ◌≤◌, nat_lt, if◌then◌else◌, Bool, true, false, List, [], ◌++◌, length, map, fold, Option, Some, None, get_or}
 use Rattle.std.specs.List.{list_any}
 use Rattle.std.specs.Option.{option_and_then, option_map, option_map_or}
 use Rattle.tx_plan.specs.Among.{Among}
-use Rattle.tx_rank.specs.Walks.{Net}
+use Rattle.tx_rank.specs.Walks.{Net, end_of}
 use Rattle.tx_rank.specs.Heights.{IsReached}
 use Rattle.tx_risk.specs.Risks.{IsDeadEnd, LeadsHome}
+use Rattle.tx_risk.specs.Outages.{steps_from}
+use Rattle.tx_risk.specs.declared.cut.Leg.{Leg}
 use Rattle.tx_risk.specs.declared.nearest.Ways.{Ways}
 use Rattle.tx_risk.specs.declared.nearest.Step.{Step}
 
@@ -18,25 +20,27 @@ pub record AreDeadEnds (n : Net) (order ends : List ℕ) : Type 0 where
 abbrev pub LeadsToDeadEnd : Net → ℕ → Type 0
 LeadsToDeadEnd n x = (steps : List (ℕ × ℕ)) × IsDeadEnd n x steps
 
--- the distance of x: the steps of a shortest way to a dead end, or none, if no way leads to one
-pub record IsDistance (n : Net) (x : ℕ) (distance : Option ℕ) : Type 0 where
-  pub way : (d : ℕ) → distance ≡ Some d
-      → (steps : List (ℕ × ℕ)) × IsDeadEnd n x steps × (length steps ≡ d)
-  pub least : (steps : List (ℕ × ℕ)) → IsDeadEnd n x steps
-      → (d : ℕ) × (distance ≡ Some d) × (d ≤ length steps)
+-- a way of so many steps to a dead end: this one, by legs from a place on
+pub record IsWayBy (n : Net) (legs : List Leg) (x count place end : ℕ) : Type 0 where
+  pub dead : IsDeadEnd n x (steps_from legs count place)
+  pub long : length (steps_from legs count place) ≡ count
+  pub ends : end_of x (steps_from legs count place) ≡ end
 
--- where the ways from x lead
-pub record AreWaysFrom (n : Net) (x : ℕ) (ways : Ways) : Type 0 where
-  pub distance : IsDistance n x ways.dead_end
+-- where the ways from x lead: a shortest one to a dead end, if any leads to one, and whether one
+-- leads home
+pub record AreWaysFrom (n : Net) (legs : List Leg) (x : ℕ) (ways : Ways) : Type 0 where
+  pub way : (d : ℕ) → ways.dead_end ≡ Some d → IsWayBy n legs x d ways.first ways.end
+  pub least : (steps : List (ℕ × ℕ)) → IsDeadEnd n x steps
+      → (d : ℕ) × (ways.dead_end ≡ Some d) × (d ≤ length steps)
   pub home : ways.home ≡ true ↔ LeadsHome n x
 
 -- all ways lead home
 abbrev pub home_alone : Ways
-home_alone = record { dead_end = None; home = true }
+home_alone = record { dead_end = None; end = 0; first = 0; home = true }
 
--- no way leads on
-abbrev pub dead_end_alone : Ways
-dead_end_alone = record { dead_end = Some 0; home = false }
+-- x is a dead end: no way leads on
+abbrev pub dead_end_at : ℕ → Ways
+dead_end_at x = record { dead_end = Some 0; end = x; first = 0; home = false }
 
 -- the ways from x that are kept
 abbrev pub ways_in : List Ways → ℕ → Ways
@@ -46,13 +50,19 @@ abbrev pub distance_in : List Ways → ℕ → Option ℕ
 distance_in kept x = (ways_in kept x).dead_end
 
 -- the ways from each exchange of a walk are kept
-abbrev pub AreAllWays : Net → List Ways → Type 0
-AreAllWays n kept = (x : ℕ) → IsReached n x → AreWaysFrom n x (ways_in kept x)
+abbrev pub AreAllWays : Net → List Leg → List Ways → Type 0
+AreAllWays n legs kept = (x : ℕ) → IsReached n x → AreWaysFrom n legs x (ways_in kept x)
+
+-- legs were added, at most one for each exchange
+pub record Grows (old new : List Leg) : Type 0 where
+  pub more : List Leg
+  pub added : new ≡ old ++ more
+  pub few : length more ≤ 256
 
 -- the dead ends alone are marked
 pub record AreDeadEndsKept (n : Net) (ends : List ℕ) (kept : List Ways) : Type 0 where
   pub long : length kept ≡ n.exchanges
-  pub dead : (x : ℕ) → Among x ends → ways_in kept x ≡ dead_end_alone
+  pub dead : (x : ℕ) → Among x ends → ways_in kept x ≡ dead_end_at x
   pub other : (x : ℕ) → (Among x ends → ⊥) → ways_in kept x ≡ home_alone
 
 -- the step from x by a group, if a way leads to a dead end from where it leads

@@ -1,5 +1,5 @@
 -- Exchanges in an order in which their lists lead back.
-use Rattle.std.specs.Prelude.{◌≡◌, ◌≢◌, ℕ, ◌<◌, nat_lt, Bool, List, Option, length, Vec, Some, slice_get, take, unwrap_or}
+use Rattle.std.specs.Prelude.{◌≡◌, ◌≢◌, ℕ, ◌<◌, ◌≤◌, nat_lt, Bool, List, Option, length, Vec, Some, slice_get, take, unwrap_or}
 use Rattle.std.specs.List.{list_any}
 use Rattle.std.specs.List.Sorted.{IsNonDecreasingBy}
 use Rattle.tx_plan.specs.Plan.{Plan}
@@ -11,6 +11,7 @@ use Rattle.tx_rank.specs.Heights.{IsReached}
 -- An order of exchanges: each exchange of a walk is there, and the groups of each but the home lead
 -- to exchanges before it.
 pub record IsOrder (n : Net) (order : List ℕ) : Type 0 where
+  pub few : length order ≤ n.exchanges
   pub within : (x : ℕ) → Among x order → x < n.exchanges
   pub reached : (x : ℕ) → IsReached n x → Among x order
   pub back : (i x : ℕ) → slice_get order i ≡ Some x → x ≢ n.home

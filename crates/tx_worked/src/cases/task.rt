@@ -4,13 +4,17 @@ use crate::cases::case::two_texts;
 use std::alloc::{AllocError, Global};
 use tx_commands::{Command, WordsFault, read_command};
 
+/// When pages are made: 2026-12-01, at midnight.
+pub const MOMENT: u64 = 1_796_083_200;
+
 /// The words of a command after the kind of its case and, where it matters, the word after the
 /// kind. `@1`, `@2` and `@3` stand for the words after the kind: where there is no such word, what
 /// has it is left out. All that a command can print and make is asked for.
-static COMMANDS: [&str; 31] = [
+static COMMANDS: [&str; 38] = [
     "pipe:",
     "run: run plan script",
     "checked: run plan script --cert=cert --limit=@1 --spare=@2",
+    "checked-telling: run plan script --strict --echo --summary --cert=cert --limit=@1 --spare=@2",
     "telling summary: run plan script --strict --summary",
     "telling both: run plan script --strict --echo --summary",
     "telling: run plan script --strict --echo",
@@ -19,11 +23,16 @@ static COMMANDS: [&str; 31] = [
     "lint: lint @1",
     "codes: codes plan",
     "audit: audit plan --limit=@1 --spare=@2 --cert=cert --counter=script",
+    "audit-down: audit plan --limit=@1 --spare=@2 --down=@3",
     "change: change old new --limit=@1 --spare=@2 --cert=cert --mixture=plan --counter=script",
     "order: order old new --limit=@1 --spare=@2",
+    "order-down: order old new --limit=@1 --spare=@2 --down=@3",
+    "onward: order old new --limit=1 --spare=0 --stage=@1 --done=done --down=@2",
+    "return: order old new --limit=1 --spare=0 --stage=@1 --done=done --back",
     "stage: order old new --limit=@1 --spare=@2 --stage=@3 --plan=plan --cert=cert",
     "mend: mend old --limit=@1 --spare=@2 --plan=plan --cert=cert",
-    "survive alone: survive plan",
+    "mend-down: mend old --limit=@1 --spare=@2 --down=@3",
+    "survive alone: survive plan --down=@2",
     "survive named: survive plan --risks=risks --risks-only",
     "survive from: survive new --from=old",
     "survive named-from: survive new --from=old --risks=risks --risks-only",
@@ -32,6 +41,7 @@ static COMMANDS: [&str; 31] = [
     "page: page @1 --limit=@2 --spare=@3 --all-codes",
     "page-risks: page @1 --limit=@2 --spare=@3 --risks=risks --all-codes",
     "page-change: page @1 --limit=@2 --spare=@3 --risks=risks --from=old",
+    "page-crews: page @1 --limit=@2 --spare=@3 --risks=risks --from=old --by-exchange",
     "page-code: page @1 --limit=@2 --spare=1 --code=@3",
     "grade: grade plan",
     "trace changes: trace plan --from=old",
@@ -89,7 +99,11 @@ pub fn command_of(alloc: Global, kind: &[u8], after: [&[u8]; 3]) -> Result<Comma
     for word in &all {
         words.push(word.as_str())?;
     }
-    read_command(alloc, words.as_slice())
+    let mut command = read_command(alloc, words.as_slice())?;
+    if let Command::Page(request) = &mut command {
+        request.moment = Some(MOMENT);
+    }
+    Ok(command)
 }
 
 /// A command and its texts, in the order in which they are read.

@@ -2,20 +2,24 @@
 use crate::cases::Log;
 use tx_commands::{
     AuditRequest, ChangeRequest, CheckRequest, Command, MendRequest, OrderRequest, PageRequest,
-    RunRequest,
+    RunRequest, TellingRequest,
 };
 use tx_plan::Limits;
 
 /// The limits that a command has.
 fn limits_of(command: &Command) -> Option<Limits> {
     match command {
-        Command::Run(
-            RunRequest {
-                checked: Some((_, limits)),
+        Command::Run(RunRequest { checked, .. })
+        | Command::RunTelling(
+            TellingRequest {
+                run: RunRequest { checked, .. },
                 ..
             },
-        )
-        | Command::Check(CheckRequest { limits, .. })
+        ) => {
+            let (_, limits) = checked.as_ref()?;
+            Some(*limits)
+        }
+        Command::Check(CheckRequest { limits, .. })
         | Command::Audit(AuditRequest { limits, .. })
         | Command::Change(ChangeRequest { limits, .. })
         | Command::Order(OrderRequest { limits, .. })
@@ -53,6 +57,18 @@ fn tell_risks(risks: &Option<(String, bool)>, log: &Log) {
     }
 }
 
+/// Tells the stage of an order, and where one was stopped.
+fn tell_order(request: &OrderRequest, log: &Log) {
+    if let Some(stage) = request.stage {
+        log.tell_number("stage", u64::from(stage));
+    }
+    if let Some(stopped) = request.stopped {
+        log.tell_number("stopped in", u64::from(stopped.stage));
+        log.tell_number("for spare", u64::from(stopped.limits.spare));
+        tell_flag("back", stopped.back, log);
+    }
+}
+
 /// Tells what a command is given beside its limits and its files.
 fn tell_more(command: &Command, log: &Log) {
     match command {
@@ -61,17 +77,13 @@ fn tell_more(command: &Command, log: &Log) {
             tell_flag("echo", request.echo, log);
             tell_flag("summary", request.summary, log);
         }
-        Command::Order(
-            OrderRequest {
-                stage: Some(stage),
-                ..
-            },
-        ) => { log.tell_number("stage", u64::from(*stage)) }
+        Command::Order(request) => tell_order(request, log),
         Command::Survive(request) => tell_risks(&request.risks, log),
         Command::Compare(request) => tell_risks(&request.risks, log),
         Command::Page(request) => {
             tell_word("code", request.code.as_deref(), log);
             tell_flag("all codes", request.all_codes, log);
+            tell_flag("by exchange", request.by_exchange, log);
         }
         Command::Trace(request) => {
             let down = request.down.as_deref();

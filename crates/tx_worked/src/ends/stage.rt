@@ -1,5 +1,5 @@
 // The ends of the program, watched.
-use crate::cases::{EndCase, Log, Reader, Writer};
+use crate::cases::{EndCase, Log, MOMENT, Reader, Writer};
 use std::fs::File;
 use std::io;
 use tx_program::{Draft, Ends, FileId, Folder};
@@ -105,5 +105,9 @@ impl<'a> Folder for Stage<'a> {
         if let Some(file) = file {
             Folder::give_up(self.rt, file);
         }
+    }
+
+    fn moment(&self) -> Option<u64> {
+        Some(MOMENT)
     }
 }

@@ -1,18 +1,22 @@
 // A job or a run over texts, and what it does.
 use crate::cases::{Ends, Refusing, Task};
-use crate::runs::{Script, is_in_event, run_text, told_cause};
+use crate::runs::{Script, is_in_event, run_after_yes, run_text, told_cause};
 use std::alloc::{Allocator, Global};
+use tx_commands::Command;
 use tx_files::{CommandFault, Ending, write_content};
 use tx_jobs::JobFault;
+use tx_plan::Limits;
 use tx_requests::do_command;
 use tx_script::{RunFault, Summary};
 use tx_text::{MemorySink, NoMemory, WriteFault};
 
-/// What is done: a command over its texts, or a script over a network.
+/// What is done: a command over its texts, or a script over a network, at once or after a check.
 #[derive(Clone, Copy)]
 pub(crate) enum Work<'a> {
     Job(Task<'a>),
     Run(Script<'a>),
+    /// The run of a task after a Yes, without the job.
+    Checked(Task<'a>, Limits),
 }
 
 /// How it ends: a job with its exit status or its fault, and a run with what it counted or where it
@@ -82,16 +86,17 @@ impl Did {
     }
 }
 
-/// Writes what goes into the files that a command makes.
+/// Writes what goes into the files that a command asks for.
 fn write_contents<A: Allocator>(
+    command: &Command,
     ending: &Ending<A>,
     out: &mut MemorySink,
 ) -> Result<(), WriteFault> {
     let Some(made) = &ending.made else {
         return Ok(());
     };
-    for content in made.contents() {
-        if let Some(content) = content {
+    for (content, file) in made.contents().into_iter().zip(command.files().makes()) {
+        if let (Some(content), Some(_)) = (content, file) {
             write_content(content, out)?;
         }
     }
@@ -110,7 +115,7 @@ fn do_task<A: Allocator + Copy>(
     let mut third = ends.source(2, task.third);
     let command = task.command;
     let ending = do_command(alloc, command, &mut first, &mut second, &mut third, out)?;
-    let written = write_contents(&ending, out);
+    let written = write_contents(command, &ending, out);
     let status = ending.status;
     drop(ending);
     written?;
@@ -130,6 +135,7 @@ fn do_in_room(
     let end = match work {
         Work::Job(task) => End::Job(do_task(&memory, task, ends, room)),
         Work::Run(text) => End::Run(run_text(&memory, text, ends, room)),
+        Work::Checked(task, limits) => End::Run(run_after_yes(&memory, task, limits, ends, room)),
     };
     Did {
         end,

@@ -5,37 +5,6 @@ use Rattle.tx_change.proofs.Listing.{each_certified, nothing_found, changes_show
 use Rattle.tx_change.proofs.Cleared.{certificate_along, cleared}
 use Rattle.tx_change.proofs.changing.change.Goals as goal
 
-pub returns-then-is_empty-clause-exactly : goal.returns-then-is_empty-clause-exactly
-returns-then-is_empty-clause-exactly g c =
-    let empty = eqb-true (vec_len c.change_codes.new.findings) 0 (sym c.is_empty.ensures ∙ c.if-is_empty.true) in
-    let none = none_of c.change_codes.new.findings.items (omega arith) in
-    (λ _. each_certified c.args.old.now c.args.new.now c.args.limits.limit c.args.limits.spare c.requires.network (ranks_of c.in_ok-cert.cert) (c.in_ok-cert.ensures.common none), λ _. tt)
-
-pub returns-then-is_empty-clause-found : goal.returns-then-is_empty-clause-found
-returns-then-is_empty-clause-found g c =
-    let empty = eqb-true (vec_len c.change_codes.new.findings) 0 (sym c.is_empty.ensures ∙ c.if-is_empty.true) in
-    let none = none_of c.change_codes.new.findings.items (omega arith) in
-    let each = each_certified c.args.old.now c.args.new.now c.args.limits.limit c.args.limits.spare c.requires.network (ranks_of c.in_ok-cert.cert) (c.in_ok-cert.ensures.common none) in
-    (λ _. nothing_found c.args.old.now c.args.new.now c.args.limits.limit c.args.limits.spare c.rules.ensures c.rules-2.ensures c.requires.network each, λ _. tt)
-
-pub returns-then-is_empty-clause-common : goal.returns-then-is_empty-clause-common
-returns-then-is_empty-clause-common g c =
-    let empty = eqb-true (vec_len c.change_codes.new.findings) 0 (sym c.is_empty.ensures ∙ c.if-is_empty.true) in
-    let none = none_of c.change_codes.new.findings.items (omega arith) in
-    c.in_ok-cert.ensures.common none
-
-pub returns-then-is_empty-clause-sound : goal.returns-then-is_empty-clause-sound
-returns-then-is_empty-clause-sound g c =
-    let empty = eqb-true (vec_len c.change_codes.new.findings) 0 (sym c.is_empty.ensures ∙ c.if-is_empty.true) in
-    let none = none_of c.change_codes.new.findings.items (omega arith) in
-    sound_change c.args.old.now c.args.new.now (ranks_of c.in_ok-cert.cert) c.args.limits.limit c.args.limits.spare c.requires.network (c.in_ok-cert.ensures.common none)
-
-pub returns-then-is_empty-clause-heights : goal.returns-then-is_empty-clause-heights
-returns-then-is_empty-clause-heights g c =
-    let empty = eqb-true (vec_len c.change_codes.new.findings) 0 (sym c.is_empty.ensures ∙ c.if-is_empty.true) in
-    let none = none_of c.change_codes.new.findings.items (omega arith) in
-    c.in_ok-cert.ensures.heights none
-
 pub returns-clause-exactly : goal.returns-clause-exactly
 returns-clause-exactly g c =
     let findings = c.change_codes.new.findings in
@@ -56,14 +25,23 @@ returns-clause-found g c =
 pub returns-clause-shown : goal.returns-clause-shown
 returns-clause-shown g c = changes_shown c.args.old.now c.args.new.now c.args.limits.limit c.args.limits.spare c.rules.ensures c.rules-2.ensures c.requires.network c.change_codes.new.findings.items c.in_ok-cert.ensures.listed
 
-pub returns-then-is_empty-clause-fits : goal.returns-then-is_empty-clause-fits
-returns-then-is_empty-clause-fits g c = c.confirm.ensures.fits
-
-pub returns-then-is_empty-clause-cleared : goal.returns-then-is_empty-clause-cleared
-returns-then-is_empty-clause-cleared g c =
+pub returns-then-is_empty : goal.returns-then-is_empty
+returns-then-is_empty g c =
     let empty = eqb-true (vec_len c.change_codes.new.findings) 0 (sym c.is_empty.ensures ∙ c.if-is_empty.true) in
     let none = none_of c.change_codes.new.findings.items (omega arith) in
-    cleared c.args.old.now c.args.new.now c.args.limits.limit c.args.limits.spare c.in_ok-cert.cert c.requires.network (c.in_ok-cert.ensures.common none) c.confirm.ensures c.confirm-then-is_empty.ensures
+    let each = each_certified c.args.old.now c.args.new.now c.args.limits.limit c.args.limits.spare c.requires.network (ranks_of c.in_ok-cert.cert) (c.in_ok-cert.ensures.common none) in
+    record {
+      exactly = (λ _. each_certified c.args.old.now c.args.new.now c.args.limits.limit c.args.limits.spare c.requires.network (ranks_of c.in_ok-cert.cert) (c.in_ok-cert.ensures.common none), λ _. tt);
+      found = (λ _. nothing_found c.args.old.now c.args.new.now c.args.limits.limit c.args.limits.spare c.rules.ensures c.rules-2.ensures c.requires.network each, λ _. tt);
+      common = c.in_ok-cert.ensures.common none;
+      cleared = cleared c.args.old.now c.args.new.now c.args.limits.limit c.args.limits.spare c.in_ok-cert.cert c.requires.network (c.in_ok-cert.ensures.common none) c.confirm.ensures c.confirm-then-is_empty.ensures;
+      sound = sound_change c.args.old.now c.args.new.now (ranks_of c.in_ok-cert.cert) c.args.limits.limit c.args.limits.spare c.requires.network (c.in_ok-cert.ensures.common none);
+      heights = c.in_ok-cert.ensures.heights none;
+      fits = c.confirm.ensures.fits;
+      fails = tt;
+      shown = tt;
+      listed = tt;
+    }
 
 pub confirm-requires-clause-fits : goal.confirm-requires-clause-fits
 confirm-requires-clause-fits g c = record { codes = c.in_ok-cert.ensures.codes; exchanges = c.in_ok-cert.ensures.exchanges; rules = c.rules-then-is_empty.ensures }

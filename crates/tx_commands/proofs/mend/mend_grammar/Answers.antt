@@ -1,4 +1,5 @@
 use Rattle.tx_commands.proofs.mend.mend_grammar.Goals as goal
 
 pub returns : goal.returns
-returns c = c.option-2.ensures _ (c.option.ensures _ (c.limits.ensures _ (c.file.ensures _ c.new.ensures)))
+returns c =
+    c.option-4.ensures _ (c.option-3.ensures _ (c.option-2.ensures _ (c.option.ensures _ (c.limits.ensures _ (c.file.ensures _ c.new.ensures)))))

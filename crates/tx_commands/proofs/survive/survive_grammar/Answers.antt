@@ -1,4 +1,5 @@
 use Rattle.tx_commands.proofs.survive.survive_grammar.Goals as goal
 
 pub returns : goal.returns
-returns c = c.option-2.ensures _ (c.flag.ensures _ (c.option.ensures _ c.over_plan.ensures))
+returns c =
+    c.option-4.ensures _ (c.option-3.ensures _ (c.option-2.ensures _ (c.flag.ensures _ (c.option.ensures _ c.over_plan.ensures))))

@@ -17,6 +17,13 @@ returns-in-Risks g c =
     (text_fault_line (codes "risks") c.in-Risks.fault.line r) c.write_text_fault.result)
     c.code_and_name-row.ensures c.write_text_fault.ensures)
 
+pub returns-in-Done : goal.returns-in-Done
+returns-in-Done g c =
+    rw c.in-Done.is
+    (subst (λ r. Wrote g.W.Sink.taken g.W.Sink.failed c.args.sink.now c.write_text_fault-in-Done.new.sink
+    (text_fault_line (codes "done") c.in-Done.fault.line r) c.write_text_fault-in-Done.result)
+    c.code_and_name-row-in-Done.ensures c.write_text_fault-in-Done.ensures)
+
 pub returns-in-Contradiction : goal.returns-in-Contradiction
 returns-in-Contradiction g c = rw c.in-Contradiction.is c.write_contradiction.ensures
 

@@ -1,5 +1,4 @@
-use Rattle.tx_text.proofs.Writing.{some}
-use Rattle.tx_text.proofs.Putting.{puts_wrote, puts_then}
+use Rattle.tx_files.proofs.Common.{some, puts_wrote, puts_then}
 use Rattle.tx_files.proofs.fault_line.write_missing.Goals as goal
 
 pub returns : goal.returns

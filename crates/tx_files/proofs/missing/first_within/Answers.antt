@@ -1,7 +1,4 @@
-use Rattle.std.proofs.Common.{rules, tests, arith, ◌≡◌, ◌+◌, ◌<◌, ℕ, Bool, true, cond, List, [], Some, length, get_or, drop, sym, ◌∙◌}
-use Rattle.std.proofs.lemmas.List.{at_drop_more}
-use Rattle.std.specs.List.{find}
-use Rattle.tx_files.specs.Missing.{names_of, is_within}
+use Rattle.tx_files.proofs.Common.{rules, tests, arith, ◌≡◌, ◌+◌, ◌<◌, ℕ, Bool, true, cond, List, [], Some, length, get_or, drop, sym, ◌∙◌, at_drop_more, find, names_of, is_within}
 use Rattle.tx_files.proofs.missing.first_within.Goals as goal
 
 -- the first element from a place on is there

@@ -1,6 +1,4 @@
-use Rattle.std.proofs.Common.{◌≡◌, drop}
-use Rattle.std.specs.List.{find}
-use Rattle.tx_files.specs.Missing.{names_of, is_within}
+use Rattle.tx_files.proofs.Common.{◌≡◌, drop, find, names_of, is_within}
 use Rattle.tx_files.proofs.missing.first_within.Given as goal
 
 abbrev pub invariant-loop-index : goal.invariant-loop-index

@@ -1,5 +1,4 @@
-use Rattle.std.proofs.Common.{None, inl, inr, refl}
-use Rattle.tx_text.proofs.Exits.{exits_with}
+use Rattle.tx_files.proofs.Common.{None, inl, inr, refl, exits_with}
 use Rattle.tx_files.proofs.Texts.{risks_fit, old_said}
 use Rattle.tx_files.proofs.Uncalled.{uncalled}
 use Rattle.tx_files.proofs.page_reading.read_for_page.Goals as goal
@@ -10,7 +9,7 @@ returns-clause-texts g c =
 
 pub returns-clause-known : goal.returns-clause-known
 returns-clause-known g c = record {
-  plan = c.in_ok-plan.ensures.text.said;
+  plan = c.in_ok-plan.ensures.text.said.rules;
   risks = risks_fit c.in_ok-plan.plan.plan _ c.args.named c.in_ok-risks.risks c.in_ok-risks.ensures.texts;
   old = old_said _ _ c.args.changed c.in_ok-old.old c.in_ok-old.ensures.texts;
 }

@@ -1,8 +1,7 @@
-use Rattle.tx_text.proofs.Exits.{exits_with}
+use Rattle.tx_files.proofs.Common.{exits_with, refl}
 use Rattle.tx_files.proofs.Texts.{old_read, old_refused, old_unasked}
 use Rattle.tx_files.proofs.Uncalled.{uncalled}
 use Rattle.tx_files.proofs.page_reading.read_old_if.Goals as goal
-use Rattle.std.proofs.Common.{refl}
 
 pub returns-in_ok-read_whole-clause-texts : goal.returns-in_ok-read_whole-clause-texts
 returns-in_ok-read_whole-clause-texts g c =

@@ -1,6 +1,4 @@
-use Rattle.std.proofs.Common.{refl}
-use Rattle.tx_text.proofs.Exits.{exits_with}
-use Rattle.tx_files.specs.Faults.{plan_stop}
+use Rattle.tx_files.proofs.Common.{refl, exits_with, plan_stop}
 use Rattle.tx_files.proofs.reading.read_one.Goals as goal
 
 pub returns-clause-text : goal.returns-clause-text

@@ -1,5 +1,4 @@
-use Rattle.std.proofs.Common.{refl}
-use Rattle.tx_text.proofs.Exits.{exits_with}
+use Rattle.tx_files.proofs.Common.{refl, exits_with}
 use Rattle.tx_files.specs.Faults.{risks_stop}
 use Rattle.tx_files.proofs.Texts.{risks_read, risks_refused, risks_unasked}
 use Rattle.tx_files.proofs.Uncalled.{uncalled}

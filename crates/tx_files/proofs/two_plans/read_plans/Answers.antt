@@ -1,5 +1,4 @@
-use Rattle.std.proofs.Common.{inl, inr, refl}
-use Rattle.tx_text.proofs.Exits.{exits_with}
+use Rattle.tx_files.proofs.Common.{inl, inr, refl, exits_with}
 use Rattle.tx_files.proofs.Uncalled.{uncalled}
 use Rattle.tx_files.proofs.two_plans.read_plans.Goals as goal
 
@@ -29,8 +28,8 @@ returns-clause-texts g c =
 
 pub returns-clause-known : goal.returns-clause-known
 returns-clause-known g c = record {
-  old = c.in_ok-old.ensures.text.said;
-  new = c.in_ok-new.ensures.text.said;
+  old = c.in_ok-old.ensures.text.said.rules;
+  new = c.in_ok-new.ensures.text.said.rules;
   joined = c.in_ok-joined.ensures.joined;
 }
 

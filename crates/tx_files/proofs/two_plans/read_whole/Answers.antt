@@ -1,7 +1,4 @@
-use Rattle.std.proofs.Common.{Err, ap, inl, inr}
-use Rattle.tx_text.specs.Ends.{input}
-use Rattle.tx_text.proofs.Exits.{exits_with}
-use Rattle.tx_files.specs.Faults.{text_stop}
+use Rattle.tx_files.proofs.Common.{Err, ap, inl, inr, input, exits_with, text_stop}
 use Rattle.tx_files.proofs.Texts.{not_whole}
 use Rattle.tx_files.proofs.two_plans.read_whole.Goals as goal
 

@@ -9,20 +9,17 @@ add_lacking-requires g c =
     let p = t.plan.now in
     (was_ranked p t.limits.limit t.limits.spare c.args.code (least_rank p c.args.code t.limits.limit t.limits.spare) c.in-Some.least.now (sym (ap option_copied c.in-Some.is) ∙ c.requires.least)).1
 
-pub returns-in-None-clause-unserved : goal.returns-in-None-clause-unserved
-returns-in-None-clause-unserved g c =
+pub returns-in-None : goal.returns-in-None
+returns-in-None g c =
     let t = c.args.task.now in
     let p = t.plan.now in
     let kept = was_kept p t.limits.limit t.limits.spare c.args.code (least_rank p c.args.code t.limits.limit t.limits.spare) (sym (ap option_copied c.in-None.is) ∙ c.requires.least) in
     let k = kept_ranked p c.rules.ensures c.args.code t.limits.limit t.limits.spare c.requires.code kept in
-    let had = c.args.lacking.now.unserved.items in
-    sym (ap (λ (l : List Unserved). had ++ l) (ranked_served p c.args.code t.limits.limit t.limits.spare k) ∙ append-nil had)
-
-pub returns-in-None-clause-missing : goal.returns-in-None-clause-missing
-returns-in-None-clause-missing g c =
-    let t = c.args.task.now in
-    let p = t.plan.now in
-    let kept = was_kept p t.limits.limit t.limits.spare c.args.code (least_rank p c.args.code t.limits.limit t.limits.spare) (sym (ap option_copied c.in-None.is) ∙ c.requires.least) in
-    let k = kept_ranked p c.rules.ensures c.args.code t.limits.limit t.limits.spare c.requires.code kept in
-    let had = c.args.lacking.now.missing.items in
-    sym (ap (λ b. had ++ (if b then [] else lacking_at p t.limits.limit t.limits.spare c.args.code)) k ∙ append-nil had)
+    record {
+      unserved =
+          let had = c.args.lacking.now.unserved.items in
+          sym (ap (λ (l : List Unserved). had ++ l) (ranked_served p c.args.code t.limits.limit t.limits.spare k) ∙ append-nil had);
+      missing =
+          let had = c.args.lacking.now.missing.items in
+          sym (ap (λ b. had ++ (if b then [] else lacking_at p t.limits.limit t.limits.spare c.args.code)) k ∙ append-nil had);
+    }

@@ -9,4 +9,4 @@ returns-in-Ordered g c =
 
 pub returns-in-NoOrder : goal.returns-in-NoOrder
 returns-in-NoOrder g c =
-    none_found c.args.joined.old c.args.joined.new c.args.limits.limit c.args.limits.spare c.in_ok-order.field-0 c.in_ok-order.ensures.right c.args.new.now c.in-NoOrder.plan c.in-NoOrder.before c.in-NoOrder.after c.in-NoOrder.is
+    none_found c.args.joined.old c.args.joined.new c.args.limits.limit c.args.limits.spare c.in_ok-order.field-0 c.in_ok-order.ensures.right c.args.new.now c.in-NoOrder.plans c.in-NoOrder.before c.in-NoOrder.after c.in-NoOrder.is

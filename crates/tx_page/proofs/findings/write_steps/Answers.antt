@@ -1,8 +1,5 @@
-use Rattle.tx_page.proofs.StepsOfWalks.{no_step_set, step_set, all_steps_set}
+use Rattle.tx_page.proofs.StepsOfWalks.{step_set, all_steps_set}
 use Rattle.tx_page.proofs.findings.write_steps.Goals as goal
-
-pub loop-i-init : goal.loop-i-init
-loop-i-init g c = no_step_set
 
 pub loop-i-preserved : goal.loop-i-preserved
 loop-i-preserved g c = step_set c.loop-i-test.true c.index-steps-i.is c.loop-i.invariant c.write_step.ensures

@@ -1,9 +1,6 @@
-use Rattle.tx_plantext.proofs.Common.{puts_none, puts_then, puts_is, group_words}
-use Rattle.tx_plantext.proofs.PlanWriting.{line_past, none_at, group_text}
+use Rattle.tx_plantext.proofs.Common.{puts_then, puts_is}
+use Rattle.tx_plantext.proofs.PlanWriting.{group_text}
 use Rattle.tx_plantext.proofs.plan_writer.write_group.Goals as goal
-
-pub returns-in-None : goal.returns-in-None
-returns-in-None g c = rw (line_past (group_words c.args.plan.now) c.args.plan.now.groups c.args.index (none_at c.args.plan.now.groups c.args.index c.in-None.ensures)) puts_none
 
 pub returns-in-Some : goal.returns-in-Some
 returns-in-Some g c =

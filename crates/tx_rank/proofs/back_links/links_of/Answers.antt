@@ -30,17 +30,11 @@ returns g c =
     let all : c.loop-index.index ≡ n.exchanges = omega arith in
     record { long = i.long; true_of = i.true_of; all = subst (LinksBelow n (rank_in c.args.marks.now) c.loop-index.links.items) all i.below }
 
-pub link_from-requires-clause-index : goal.link_from-requires-clause-index
-link_from-requires-clause-index g c = let e = c.exchanges-index-end.ensures in let t = c.loop-index-test.true in omega arith
-
-pub link_from-requires-clause-marks : goal.link_from-requires-clause-marks
-link_from-requires-clause-marks g c = c.requires.long
-
-pub link_from-requires-clause-long : goal.link_from-requires-clause-long
-link_from-requires-clause-long g c = ap length c.deref_mut.ensures.value ∙ c.loop-index.invariant.long
-
-pub link_from-requires-clause-links : goal.link_from-requires-clause-links
-link_from-requires-clause-links g c = subst (AreLinks (g.N.CodeNet.net c.args.net.now) (rank_in c.args.marks.now)) (sym c.deref_mut.ensures.value) c.loop-index.invariant.true_of
-
-pub link_from-requires-clause-below : goal.link_from-requires-clause-below
-link_from-requires-clause-below g c = subst (λ (l : List (Option (ℕ × ℕ))). LinksBelow (g.N.CodeNet.net c.args.net.now) (rank_in c.args.marks.now) l c.loop-index.index) (sym c.deref_mut.ensures.value) c.loop-index.invariant.below
+pub link_from-requires : goal.link_from-requires
+link_from-requires g c = record {
+  index = let e = c.exchanges-index-end.ensures in let t = c.loop-index-test.true in omega arith;
+  marks = c.requires.long;
+  long = ap length c.deref_mut.ensures.value ∙ c.loop-index.invariant.long;
+  links = subst (AreLinks (g.N.CodeNet.net c.args.net.now) (rank_in c.args.marks.now)) (sym c.deref_mut.ensures.value) c.loop-index.invariant.true_of;
+  below = subst (λ (l : List (Option (ℕ × ℕ))). LinksBelow (g.N.CodeNet.net c.args.net.now) (rank_in c.args.marks.now) l c.loop-index.index) (sym c.deref_mut.ensures.value) c.loop-index.invariant.below;
+}

@@ -3,40 +3,13 @@ use Rattle.tx_cert.specs.Certificate.{rank_at as ranked_at}
 use Rattle.tx_rank.proofs.Judging.{judged_long, judged_none}
 use Rattle.tx_rank.proofs.code_ranking.judge_ranked.Goals as goal
 
-pub returns-in_ok-push-in-Some-clause-judged : goal.returns-in_ok-push-in-Some-clause-judged
-returns-in_ok-push-in-Some-clause-judged g c =
-    let n = g.N.CodeNet.net c.args.net.now in
-    let ranks = rank_in c.args.marks.now in
-    let old = c.args.findings.now.items in
-    let here = c.put_ranks.ensures.here in
-    let same : ranks ≡ ranked_at c.put_ranks.new.cert c.args.code = λ i x. sym (here x) i in
-    let l = subst (IsLongFound n ranks c.args.limit) c.in-Some.is c.in_ok-walk.ensures in
-    let j = judged_long n c.args.code c.args.limit c.args.spare ranks c.requires.passed.ranks old c.add_shorts.new.findings.items c.in_ok-add_shorts.ensures c.in-Some.walk l in
-    subst (λ (fs : List (Finding g.row.A.Denot)). IsJudged n c.args.code c.args.limit c.args.spare old fs (ranked_at c.put_ranks.new.cert c.args.code)) (sym c.in_ok-push-in-Some.ensures.items)
-    (subst (IsJudged n c.args.code c.args.limit c.args.spare old (c.add_shorts.new.findings.items ++ Long c.args.code c.in-Some.walk ∷ [])) same j)
-
-pub returns-in-None-clause-judged : goal.returns-in-None-clause-judged
-returns-in-None-clause-judged g c =
-    let n = g.N.CodeNet.net c.args.net.now in
-    let ranks = rank_in c.args.marks.now in
-    let old = c.args.findings.now.items in
-    let here = c.put_ranks.ensures.here in
-    let same : ranks ≡ ranked_at c.put_ranks.new.cert c.args.code = λ i x. sym (here x) i in
-    let low = subst (IsLongFound n ranks c.args.limit) c.in-None.is c.in_ok-walk.ensures in
-    let j = judged_none n c.args.code c.args.limit c.args.spare ranks c.requires.passed.ranks old c.add_shorts.new.findings.items c.in_ok-add_shorts.ensures (g.met.N.CodeNet.is_net c.args.net.now) low in
-    subst (IsJudged n c.args.code c.args.limit c.args.spare old c.add_shorts.new.findings.items) same j
-
-pub put_ranks-requires-clause-long : goal.put_ranks-requires-clause-long
-put_ranks-requires-clause-long g c = c.requires.passed.long
-
-pub put_ranks-requires-clause-code : goal.put_ranks-requires-clause-code
-put_ranks-requires-clause-code g c = c.requires.code
-
-pub put_ranks-requires-clause-exchanges : goal.put_ranks-requires-clause-exchanges
-put_ranks-requires-clause-exchanges g c = c.requires.exchanges
-
-pub put_ranks-requires-clause-blank : goal.put_ranks-requires-clause-blank
-put_ranks-requires-clause-blank g c = c.requires.blank
+pub put_ranks-requires : goal.put_ranks-requires
+put_ranks-requires g c = record {
+  long = c.requires.passed.long;
+  code = c.requires.code;
+  exchanges = c.requires.exchanges;
+  blank = c.requires.blank;
+}
 
 pub add_shorts-requires : goal.add_shorts-requires
 add_shorts-requires g c = c.requires.passed
@@ -44,20 +17,36 @@ add_shorts-requires g c = c.requires.passed
 pub long_walk-requires : goal.long_walk-requires
 long_walk-requires g c = c.requires.passed
 
-pub returns-in-None-clause-others : goal.returns-in-None-clause-others
-returns-in-None-clause-others g c = c.put_ranks.ensures.others
+pub returns-in-None : goal.returns-in-None
+returns-in-None g c =
+    let n = g.N.CodeNet.net c.args.net.now in
+    let ranks = rank_in c.args.marks.now in
+    let old = c.args.findings.now.items in
+    let here = c.put_ranks.ensures.here in
+    let same : ranks ≡ ranked_at c.put_ranks.new.cert c.args.code = λ i x. sym (here x) i in
+    let low = subst (IsLongFound n ranks c.args.limit) c.in-None.is c.in_ok-walk.ensures in
+    let j = judged_none n c.args.code c.args.limit c.args.spare ranks c.requires.passed.ranks old c.add_shorts.new.findings.items c.in_ok-add_shorts.ensures (g.met.N.CodeNet.is_net c.args.net.now) low in
+    record {
+      judged = subst (IsJudged n c.args.code c.args.limit c.args.spare old c.add_shorts.new.findings.items) same j;
+      others = c.put_ranks.ensures.others;
+      codes = c.put_ranks.ensures.codes;
+      exchanges = c.put_ranks.ensures.exchanges;
+    }
 
-pub returns-in-None-clause-codes : goal.returns-in-None-clause-codes
-returns-in-None-clause-codes g c = c.put_ranks.ensures.codes
-
-pub returns-in-None-clause-exchanges : goal.returns-in-None-clause-exchanges
-returns-in-None-clause-exchanges g c = c.put_ranks.ensures.exchanges
-
-pub returns-in_ok-push-in-Some-clause-others : goal.returns-in_ok-push-in-Some-clause-others
-returns-in_ok-push-in-Some-clause-others g c = c.put_ranks.ensures.others
-
-pub returns-in_ok-push-in-Some-clause-codes : goal.returns-in_ok-push-in-Some-clause-codes
-returns-in_ok-push-in-Some-clause-codes g c = c.put_ranks.ensures.codes
-
-pub returns-in_ok-push-in-Some-clause-exchanges : goal.returns-in_ok-push-in-Some-clause-exchanges
-returns-in_ok-push-in-Some-clause-exchanges g c = c.put_ranks.ensures.exchanges
+pub returns-in_ok-push-in-Some : goal.returns-in_ok-push-in-Some
+returns-in_ok-push-in-Some g c =
+    let n = g.N.CodeNet.net c.args.net.now in
+    let ranks = rank_in c.args.marks.now in
+    let old = c.args.findings.now.items in
+    let here = c.put_ranks.ensures.here in
+    let same : ranks ≡ ranked_at c.put_ranks.new.cert c.args.code = λ i x. sym (here x) i in
+    let l = subst (IsLongFound n ranks c.args.limit) c.in-Some.is c.in_ok-walk.ensures in
+    let j = judged_long n c.args.code c.args.limit c.args.spare ranks c.requires.passed.ranks old c.add_shorts.new.findings.items c.in_ok-add_shorts.ensures c.in-Some.walk l in
+    record {
+      judged =
+          subst (λ (fs : List (Finding g.row.A.Denot)). IsJudged n c.args.code c.args.limit c.args.spare old fs (ranked_at c.put_ranks.new.cert c.args.code)) (sym c.in_ok-push-in-Some.ensures.items)
+          (subst (IsJudged n c.args.code c.args.limit c.args.spare old (c.add_shorts.new.findings.items ++ Long c.args.code c.in-Some.walk ∷ [])) same j);
+      others = c.put_ranks.ensures.others;
+      codes = c.put_ranks.ensures.codes;
+      exchanges = c.put_ranks.ensures.exchanges;
+    }

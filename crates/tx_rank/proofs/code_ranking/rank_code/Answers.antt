@@ -13,29 +13,21 @@ returns-then-closed-clause-judged g c =
     let added = c.in_ok-push.ensures.items ∙ ap (λ (v : Walk). old ++ Loop c.args.code v ∷ []) c.into_walk.ensures in
     subst (λ (fs : List (Finding g.row.A.Denot)). IsJudged n c.args.code c.args.limit c.args.spare old fs ranks) (sym added) (judged_loop n c.args.code c.args.limit c.args.spare old ranks w (c.in_ok-closed.ensures.closed c.if-closed.true))
 
-pub returns-clause-judged : goal.returns-clause-judged
-returns-clause-judged g c = c.judge_ranked.ensures.judged
+pub returns : goal.returns
+returns g c = record {
+  judged = c.judge_ranked.ensures.judged;
+  others = c.judge_ranked.ensures.others;
+  codes = c.judge_ranked.ensures.codes;
+  exchanges = c.judge_ranked.ensures.exchanges;
+}
 
-pub returns-clause-others : goal.returns-clause-others
-returns-clause-others g c = c.judge_ranked.ensures.others
-
-pub returns-clause-codes : goal.returns-clause-codes
-returns-clause-codes g c = c.judge_ranked.ensures.codes
-
-pub returns-clause-exchanges : goal.returns-clause-exchanges
-returns-clause-exchanges g c = c.judge_ranked.ensures.exchanges
-
-pub judge_ranked-requires-clause-passed : goal.judge_ranked-requires-clause-passed
-judge_ranked-requires-clause-passed g c = subst (IsPassed (g.N.CodeNet.net c.args.net.now)) (sym c.deref.ensures.value) (c.in_ok-closed.ensures.done c.if-closed.false)
-
-pub judge_ranked-requires-clause-code : goal.judge_ranked-requires-clause-code
-judge_ranked-requires-clause-code g c = c.requires.code
-
-pub judge_ranked-requires-clause-exchanges : goal.judge_ranked-requires-clause-exchanges
-judge_ranked-requires-clause-exchanges g c = c.requires.exchanges
-
-pub judge_ranked-requires-clause-blank : goal.judge_ranked-requires-clause-blank
-judge_ranked-requires-clause-blank g c = c.requires.blank
+pub judge_ranked-requires : goal.judge_ranked-requires
+judge_ranked-requires g c = record {
+  passed = subst (IsPassed (g.N.CodeNet.net c.args.net.now)) (sym c.deref.ensures.value) (c.in_ok-closed.ensures.done c.if-closed.false);
+  code = c.requires.code;
+  exchanges = c.requires.exchanges;
+  blank = c.requires.blank;
+}
 
 pub returns-then-closed-clause-others : goal.returns-then-closed-clause-others
 returns-then-closed-clause-others g c = λ d x away. refl

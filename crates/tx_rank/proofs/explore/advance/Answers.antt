@@ -10,50 +10,34 @@ look_on-requires-clause-tried g c =
     let e : c.end-exchange.result ≡ end_of search.start search.steps.items = c.end-exchange.ensures ∙ ap (end_of search.start) c.deref.ensures.value in
     subst (λ (l : List Mark). IsTried (g.N.CodeNet.net c.args.net.now) l c.end-exchange.result search.last) (sym c.deref-2.ensures.value) (subst (λ (x : ℕ). IsTried (g.N.CodeNet.net c.args.net.now) search.marks.items x search.last) (sym e) c.requires.tried.list)
 
-pub go_on-requires-clause-marked : goal.go_on-requires-clause-marked
-go_on-requires-clause-marked g c = c.requires.marked
-
-pub go_on-requires-clause-hand : goal.go_on-requires-clause-hand
-go_on-requires-clause-hand g c = c.requires.hand
-
-pub go_on-requires-clause-tried : goal.go_on-requires-clause-tried
-go_on-requires-clause-tried g c =
+pub go_on-requires : goal.go_on-requires
+go_on-requires g c =
     let search = c.args.search.now in
     let e : c.end-exchange.result ≡ end_of search.start search.steps.items = c.end-exchange.ensures ∙ ap (end_of search.start) c.deref.ensures.value in
     let tried = subst (λ (l : List Mark). IsTried (g.N.CodeNet.net c.args.net.now) l c.end-exchange.result c.look_on.new.tried) c.deref-2.ensures.value c.look_on.ensures.tried in
-    record { lists = c.requires.tried.lists; list = subst (λ (x : ℕ). IsTried (g.N.CodeNet.net c.args.net.now) search.marks.items x c.look_on.new.tried) e tried }
-
-pub settle-requires-clause-marked : goal.settle-requires-clause-marked
-settle-requires-clause-marked g c = c.requires.marked
-
-pub settle-requires-clause-hand : goal.settle-requires-clause-hand
-settle-requires-clause-hand g c = c.requires.hand
-
-pub settle-requires-clause-tried : goal.settle-requires-clause-tried
-settle-requires-clause-tried g c =
-    let search = c.args.search.now in
-    let e : c.end-exchange.result ≡ end_of search.start search.steps.items = c.end-exchange.ensures ∙ ap (end_of search.start) c.deref.ensures.value in
-    let tried = subst (λ (l : List Mark). IsTried (g.N.CodeNet.net c.args.net.now) l c.end-exchange.result c.look_on.new.tried) c.deref-2.ensures.value c.look_on.ensures.tried in
-    record { lists = c.requires.tried.lists; list = subst (λ (x : ℕ). IsTried (g.N.CodeNet.net c.args.net.now) search.marks.items x c.look_on.new.tried) e tried }
-
-pub go_on-requires-clause-onward : goal.go_on-requires-clause-onward
-go_on-requires-clause-onward g c =
-    let search = c.args.search.now in
-    let e : c.end-exchange.result ≡ end_of search.start search.steps.items = c.end-exchange.ensures ∙ ap (end_of search.start) c.deref.ensures.value in
     let to : ℕ × ℕ = (c.in-Onward.group, c.in-Onward.to) in
     let on = subst (λ (l : List Mark). IsOnward (g.N.CodeNet.net c.args.net.now) l c.end-exchange.result to) c.deref-2.ensures.value c.in-Onward.ensures.look in
-    subst (λ (x : ℕ). IsOnward (g.N.CodeNet.net c.args.net.now) search.marks.items x to) e on
+    record {
+      marked = c.requires.marked;
+      hand = c.requires.hand;
+      tried = record { lists = c.requires.tried.lists; list = subst (λ (x : ℕ). IsTried (g.N.CodeNet.net c.args.net.now) search.marks.items x c.look_on.new.tried) e tried };
+      onward = subst (λ (x : ℕ). IsOnward (g.N.CodeNet.net c.args.net.now) search.marks.items x to) e on;
+    }
 
-pub settle-requires-clause-net : goal.settle-requires-clause-net
-settle-requires-clause-net g c = g.met.N.CodeNet.is_net c.args.net.now
-
-pub settle-requires-clause-end : goal.settle-requires-clause-end
-settle-requires-clause-end g c = c.end-exchange.ensures ∙ ap (end_of c.args.search.now.start) c.deref.ensures.value
-
-pub settle-requires-clause-top : goal.settle-requires-clause-top
-settle-requires-clause-top g c =
+pub settle-requires : goal.settle-requires
+settle-requires g c =
+    let search = c.args.search.now in
+    let e : c.end-exchange.result ≡ end_of search.start search.steps.items = c.end-exchange.ensures ∙ ap (end_of search.start) c.deref.ensures.value in
+    let tried = subst (λ (l : List Mark). IsTried (g.N.CodeNet.net c.args.net.now) l c.end-exchange.result c.look_on.new.tried) c.deref-2.ensures.value c.look_on.ensures.tried in
     let n = g.N.CodeNet.net c.args.net.now in
-    subst (λ (l : List Mark). IsTop n l c.end-exchange.result (n.list c.end-exchange.result) c.in-Settled.top) c.deref-2.ensures.value c.in-Settled.ensures.look
+    record {
+      net = g.met.N.CodeNet.is_net c.args.net.now;
+      marked = c.requires.marked;
+      hand = c.requires.hand;
+      tried = record { lists = c.requires.tried.lists; list = subst (λ (x : ℕ). IsTried (g.N.CodeNet.net c.args.net.now) search.marks.items x c.look_on.new.tried) e tried };
+      end = c.end-exchange.ensures ∙ ap (end_of c.args.search.now.start) c.deref.ensures.value;
+      top = subst (λ (l : List Mark). IsTop n l c.end-exchange.result (n.list c.end-exchange.result) c.in-Settled.top) c.deref-2.ensures.value c.in-Settled.ensures.look;
+    }
 
 pub returns-in-Onward-clause-start : goal.returns-in-Onward-clause-start
 returns-in-Onward-clause-start g c = c.go_on.ensures.start

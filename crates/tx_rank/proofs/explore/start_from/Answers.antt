@@ -18,17 +18,13 @@ returns-in-Some-clause-done g c = λ _.
     let ranked = ap (rank_in marks) (sym c.exchange-origin.ensures) ∙ ap (λ (l : List Mark). rank_in l c.exchange-origin.result) (sym c.deref.ensures.value) ∙ sym c.rank_at.ensures ∙ c.in-Some.is in
     passing_skip n marks c.args.index c.requires.passing (λ _. (c.in-Some.field-0, ranked))
 
-pub start_at-requires-clause-origin : goal.start_at-requires-clause-origin
-start_at-requires-clause-origin g c = sym c.is_origin.ensures ∙ c.if-is_origin.true
-
-pub start_at-requires-clause-marked : goal.start_at-requires-clause-marked
-start_at-requires-clause-marked g c = c.requires.passing.marked
-
-pub start_at-requires-clause-none : goal.start_at-requires-clause-none
-start_at-requires-clause-none g c = c.requires.passing.none
-
-pub start_at-requires-clause-unseen : goal.start_at-requires-clause-unseen
-start_at-requires-clause-unseen g c = ap (λ (l : List Mark). rank_in l c.exchange-origin.result) (sym c.deref.ensures.value) ∙ sym c.rank_at.ensures ∙ c.in-None.is
+pub start_at-requires : goal.start_at-requires
+start_at-requires g c = record {
+  origin = sym c.is_origin.ensures ∙ c.if-is_origin.true;
+  marked = c.requires.passing.marked;
+  none = c.requires.passing.none;
+  unseen = ap (λ (l : List Mark). rank_in l c.exchange-origin.result) (sym c.deref.ensures.value) ∙ sym c.rank_at.ensures ∙ c.in-None.is;
+}
 
 pub returns-else-is_origin-clause-done : goal.returns-else-is_origin-clause-done
 returns-else-is_origin-clause-done g c = λ _.

@@ -1,6 +1,8 @@
-use Rattle.tx_rank.proofs.Common.{◌≡◌, ◌≢◌, ◌∙◌, ◌+◌, ◌++◌, ◌∷◌, ℕ, List, Option, None, length, vec_len, [], sym, ap, subst, arith, eqb-true, eqb-false, ambiguous_of, rank_at, Bounds, net_of, pair_findings, IsJudged, IsGrade, CanBeCertifiedFor}
+use Rattle.tx_rank.proofs.Common.{◌≡◌, ◌≢◌, ◌∙◌, ◌+◌, ◌++◌, ◌∷◌, ℕ, List, Option, None, length, vec_len, [], sym, ap, subst, arith, eqb-true, eqb-false, ambiguous_of, rank_at, ranks_of, Some, RanksByHeight, Bounds, net_of, pair_findings, IsJudged, IsGrade, CanBeCertifiedFor}
+use Rattle.std.specs.Prelude.{IfSome}
+use Rattle.tx_rank.specs.Grades.{AreRanksOfGrades}
 use Rattle.tx_rank.proofs.Listing.{none_of, no_pair, ranked_first, ranked_next}
-use Rattle.tx_rank.proofs.Graded.{IsGradedBelow, graded_first, graded_none, graded_next, graded_plan, graded_codes, graded_listed, graded_true, graded_clean, graded_fails, graded_clear, graded_ranks}
+use Rattle.tx_rank.proofs.Graded.{IsGradedBelow, none_at, graded_first, graded_none, graded_next, heights_next, graded_plan, graded_codes, graded_listed, graded_true, graded_clean, graded_fails, graded_clear, graded_ranks}
 use Rattle.tx_rank.proofs.grading.grade.Goals as goal
 use Rattle.tx_rank.proofs.grading.grade.Goals.{then-is_empty, else-is_empty}
 
@@ -27,6 +29,7 @@ loop-index-init g c =
             in
             rw w.together-is (graded_none p some)
       ]);
+      heights = rw c.in_ok-codes.ensures.items (λ d b at. absurd (none_at d (d, Some b) at));
       room = let r = c.in_ok-codes.ensures.capacity in let n = c.codes.ensures.count in omega arith;
     }
 
@@ -59,6 +62,15 @@ loop-index-preserved g c =
       graded = subst
           (λ (codes : List (ℕ × Option Bounds)). IsGradedBelow p (index + 1) plan codes)
           (sym k.items) same;
+      heights = subst
+          (λ (codes : List (ℕ × Option Bounds)). AreRanksOfGrades p (ranks_of c.code_grade.new.cert) codes)
+          (sym k.items) (subst
+          (λ (d : ℕ). AreRanksOfGrades p (ranks_of c.code_grade.new.cert) (before ++ (d, alone) ∷ []))
+          (sym at) (heights_next p index alone before (ranks_of c.loop-index.cert)
+          (ranks_of c.code_grade.new.cert) i.graded.long i.heights
+          (λ d x away. e.others d x (λ q. away (q ∙ at)))
+          (subst (λ (d : ℕ). IfSome alone (λ _.
+          RanksByHeight (net_of p d) (rank_at c.code_grade.new.cert d))) at e.heights)));
       room = let r = i.room in let q = k.capacity in omega arith;
     }
 

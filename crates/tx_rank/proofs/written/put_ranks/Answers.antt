@@ -7,11 +7,6 @@ loop-index-preserved g c =
     let e = c.put_rank.ensures in
     writing_more c.args.cert.now c.loop-index.cert c.put_rank.new.cert c.args.marks.now c.args.code c.loop-index.index c.loop-index.invariant e.here e.others e.codes e.exchanges
 
-pub returns-clause-here : goal.returns-clause-here
-returns-clause-here g c =
-    let at : c.loop-index.index ≡ length c.args.marks.now = let t = c.loop-index-test.false in let a = c.loop-index.auto.index-end in let e = c.exchanges-index-end.ensures in let l = c.requires.long in omega arith in
-    writing_all c.args.cert.now c.loop-index.cert c.args.marks.now c.args.code c.loop-index.index c.loop-index.invariant at
-
 pub loop-index-init : goal.loop-index-init
 loop-index-init g c = record { here = λ x h. absurd (omega arith); blank = λ x h. c.requires.blank x; others = λ d x h. refl; codes = refl; exchanges = refl }
 
@@ -27,11 +22,12 @@ put_rank-requires-clause-exchanges g c = c.loop-index.invariant.exchanges ∙ c.
 pub put_rank-requires-clause-blank : goal.put_rank-requires-clause-blank
 put_rank-requires-clause-blank g c = c.loop-index.invariant.blank c.loop-index.index (omega arith)
 
-pub returns-clause-others : goal.returns-clause-others
-returns-clause-others g c = c.loop-index.invariant.others
-
-pub returns-clause-codes : goal.returns-clause-codes
-returns-clause-codes g c = c.loop-index.invariant.codes
-
-pub returns-clause-exchanges : goal.returns-clause-exchanges
-returns-clause-exchanges g c = c.loop-index.invariant.exchanges
+pub returns : goal.returns
+returns g c =
+    let at : c.loop-index.index ≡ length c.args.marks.now = let t = c.loop-index-test.false in let a = c.loop-index.auto.index-end in let e = c.exchanges-index-end.ensures in let l = c.requires.long in omega arith in
+    record {
+      here = writing_all c.args.cert.now c.loop-index.cert c.args.marks.now c.args.code c.loop-index.index c.loop-index.invariant at;
+      others = c.loop-index.invariant.others;
+      codes = c.loop-index.invariant.codes;
+      exchanges = c.loop-index.invariant.exchanges;
+    }

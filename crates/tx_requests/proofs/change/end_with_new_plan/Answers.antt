@@ -11,7 +11,7 @@ pub end_with-requires : goal.end_with-requires
 end_with-requires g c =
     rw c.of-in-Some.ensures.plan
     (new_rules c.args.request.now.limits.limit c.args.request.now.limits.spare c.args.findings.now
-    c.in_ok-shown.field-0 c.in-Some.shown c.in-Some.is _ c.in_ok-shown.ensures c.requires.joined.new.rules)
+    c.in_ok-shown.field-0 c.in-Some.shown c.in-Some.is _ c.in_ok-shown.ensures c.requires.joined.new)
 
 pub returns-then-not-is_shown : goal.returns-then-not-is_shown
 returns-then-not-is_shown g c =

@@ -11,7 +11,9 @@ returns g c =
     record {
       ranking = c.in_ok-ranking.ensures;
       grade = (plan, e.codes);
+      heights = e.heights;
       outcomes = c.in_ok-outcomes.ensures.outcomes;
+      none = c.in_ok-outcomes.ensures.none;
     }
 
 pub outcomes_of-requires-clause-risks : goal.outcomes_of-requires-clause-risks

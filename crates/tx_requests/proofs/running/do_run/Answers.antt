@@ -32,33 +32,23 @@ returns-in_err-run_job-in-None-clause-done g c =
 pub returns-in_err-run_job-in-None-clause-third_calls : goal.returns-in_err-run_job-in-None-clause-third_calls
 returns-in_err-run_job-in-None-clause-third_calls g c = uncalled g.R.Source.called c.args.third.now
 
-pub returns-in-Ran-clause-done : goal.returns-in-Ran-clause-done
-returns-in-Ran-clause-done g c =
+pub returns-in_ok-checked-in-Some-clause-done : goal.returns-in_ok-checked-in-Some-clause-done
+returns-in_ok-checked-in-Some-clause-done g c =
     rw c.in-Some.is
     (record {
-      answer = Ok c.in_ok-run_checked_job-in-Some.field-0;
-      by = c.in_ok-run_checked_job-in-Some.ensures.answers;
-      mark = c.in_ok-run_checked_job-in-Some.ensures.mark;
-      ended = rw c.in-Ran.is (c.of-in-Ran.ensures.status, c.of-in-Ran.ensures.made);
+      answer = Ok c.in_ok-checked-in-Some.checked;
+      by = c.in_ok-checked-in-Some.ensures.answers;
+      mark = c.in_ok-checked-in-Some.ensures.mark;
+      ended = (rw c.checked_status.ensures at c.of-in-Some.ensures.status, c.of-in-Some.ensures.made);
     })
 
-pub returns-in-Denied-clause-done : goal.returns-in-Denied-clause-done
-returns-in-Denied-clause-done g c =
-    rw c.in-Some.is
-    (record {
-      answer = Ok c.in_ok-run_checked_job-in-Some.field-0;
-      by = c.in_ok-run_checked_job-in-Some.ensures.answers;
-      mark = c.in_ok-run_checked_job-in-Some.ensures.mark;
-      ended = rw c.in-Denied.is (c.of-in-Denied.ensures.status, c.of-in-Denied.ensures.made);
-    })
-
-pub returns-in_err-run_checked_job-in-Some-clause-done : goal.returns-in_err-run_checked_job-in-Some-clause-done
-returns-in_err-run_checked_job-in-Some-clause-done g c =
-    let f = c.in_err-run_checked_job-in-Some.field-0.0 in
+pub returns-in_err-checked-in-Some-clause-done : goal.returns-in_err-checked-in-Some-clause-done
+returns-in_err-checked-in-Some-clause-done g c =
+    let f = c.in_err-checked-in-Some.field-0.0 in
     rw c.in-Some.is
     (record {
       answer = Err f;
-      by = c.in_err-run_checked_job-in-Some.ensures.answers;
-      mark = c.in_err-run_checked_job-in-Some.ensures.mark;
-      ended = exits_with c.from_residual-in_err-run_checked_job-in-Some.result (Job f) c.from_residual-in_err-run_checked_job-in-Some.ensures.1;
+      by = c.in_err-checked-in-Some.ensures.answers;
+      mark = c.in_err-checked-in-Some.ensures.mark;
+      ended = exits_with c.from_residual-in_err-checked-in-Some.result (Job f) c.from_residual-in_err-checked-in-Some.ensures.1;
     })

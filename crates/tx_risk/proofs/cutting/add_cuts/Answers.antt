@@ -1,10 +1,10 @@
-use Rattle.tx_risk.proofs.Common.{◌≡◌, ◌+◌, ◌∙◌, [], length, not, sym, ap, subst, arith, append-nil, list_any, Among, ranks_of, fails_at, left_net, AreDeadEnds, Adds, AreCutsBefore}
+use Rattle.tx_risk.proofs.Common.{◌≡◌, ◌+◌, ◌∙◌, [], length, not, sym, ap, subst, arith, append-nil, list_any, Among, ranks_of, fails_at, left_net, AreDeadEnds, AreAllWays, Adds, AreCutsBefore}
 use Rattle.tx_risk.proofs.AddedCuts.{before_none, before_all, asked_within}
 use Rattle.tx_risk.proofs.Unhit.{unhit, emptied_dead}
 use Rattle.tx_risk.proofs.cutting.add_cuts.Goals as goal
 
-pub returns-then-not-is_hit : goal.returns-then-not-is_hit
-returns-then-not-is_hit g c =
+pub returns-then-not-is_hit-clause-cuts : goal.returns-then-not-is_hit-clause-cuts
+returns-then-not-is_hit-clause-cuts g c =
     let l = c.args.left.now in
     let o = c.args.outage.now in
     let ends = c.args.ends.now in
@@ -14,9 +14,13 @@ returns-then-not-is_hit g c =
       mine = [];
       added = sym (append-nil c.args.cuts.now.items);
       these = unhit l c.exchanges-exchanges.ensures.rules ends c.requires.ends (ranks_of c.args.ranks.now) k.0 k.1 k.2 o
-          c.requires.takes
+          c.args.legs.now.items c.requires.takes
           (ap (list_any (λ x. not (fails_at o x))) (sym dead) ∙ sym c.is_hit.ensures ∙ c.if-not-is_hit.true);
     }
+
+pub returns-then-not-is_hit-clause-grown : goal.returns-then-not-is_hit-clause-grown
+returns-then-not-is_hit-clause-grown g c =
+    record { more = []; added = sym (append-nil c.args.legs.now.items); few = omega arith }
 
 pub not_above-from-requires-clause-dead_ends : goal.not_above-from-requires-clause-dead_ends
 not_above-from-requires-clause-dead_ends g c =
@@ -42,26 +46,30 @@ ways_of-requires-clause-before g c = λ x m way.
     (c.not_above-from.ensures x m way)
 
 pub loop-index-init : goal.loop-index-init
-loop-index-init g c = before_none c.args.left.now c.args.outage.now c.args.cuts.now.items
+loop-index-init g c =
+    before_none c.args.left.now c.args.outage.now c.ways_of.new.legs.items c.args.cuts.now.items
 
 pub loop-index-preserved : goal.loop-index-preserved
 loop-index-preserved g c =
     let l = c.args.left.now in
     let o = c.args.outage.now in
+    let legs = c.ways_of.new.legs.items in
     let first = c.args.cuts.now.items in
-    subst (λ k. Adds (AreCutsBefore l o (k + 1)) first c.add_cut.new.cuts.items)
+    let all = subst (λ k. AreAllWays (left_net l) legs k) (sym c.deref-in-loop-index.ensures.value)
+    c.in_ok-kept.ensures.ways in
+    subst (λ k. Adds (AreCutsBefore l o legs (k + 1)) first c.add_cut.new.cuts.items)
     c.of-exchange.ensures
-    (c.in_ok-add_cut.ensures first
-    (subst (λ k. Adds (AreCutsBefore l o k) first c.loop-index.cuts.items)
+    (c.in_ok-add_cut.ensures legs all first
+    (subst (λ k. Adds (AreCutsBefore l o legs k) first c.loop-index.cuts.items)
     (sym c.of-exchange.ensures) c.loop-index.invariant))
 
-pub returns : goal.returns
-returns g c =
+pub returns-clause-cuts : goal.returns-clause-cuts
+returns-clause-cuts g c =
     let l = c.args.left.now in
     let e = c.exchanges-exchanges.ensures in
     let all : c.loop-index.index ≡ length l.plan.exchanges =
     let t = c.loop-index-test.false in let a = c.loop-index.auto.index-end in
     let n = e.count in omega arith in
-    before_all l c.args.outage.now c.args.cuts.now.items c.loop-index.cuts.items c.loop-index.index
+    before_all l c.args.outage.now c.ways_of.new.legs.items c.args.cuts.now.items c.loop-index.cuts.items c.loop-index.index
     (λ x a. let w = asked_within l.plan e.rules.rules c.args.outage.now l.code e.rules.code x a in
     omega arith) c.loop-index.invariant

@@ -12,7 +12,7 @@ returns-in_err-lines-clause-answer g c =
     let x = c.in_err-lines.field-0.0 in
     let a = rw c.new.ensures at c.in_err-lines.ensures.answer in
     rw (exits_with c.from_residual.result x c.from_residual.ensures.1)
-    (answered_beside declare p (codes "RISKS") 1 [] is_memory text.old text.new text.broken
+    (answered_beside declare p (codes "RISKS") 2 [] is_memory text.old text.new text.broken
     text.unread (Err (x.line, x.kind)) a)
 
 pub returns-clause-answer : goal.returns-clause-answer
@@ -23,7 +23,7 @@ returns-clause-answer g c =
     let s = c.in_ok-lines.lines in
     let a = rw c.new.ensures at c.in_ok-lines.ensures.answer in
     rw c.finish.ensures.risks
-    (answered_beside declare p (codes "RISKS") 1 [] is_memory text.old text.new text.broken
+    (answered_beside declare p (codes "RISKS") 2 [] is_memory text.old text.new text.broken
     text.unread (Ok s) a)
 
 pub returns-clause-fits : goal.returns-clause-fits
@@ -32,4 +32,4 @@ returns-clause-fits g c =
     let s = c.in_ok-lines.lines in
     let a = rw c.new.ensures at c.in_ok-lines.ensures.answer in
     subst (λ q. AreRisksFor q c.finish.result)
-    (kept_beside declare p (codes "RISKS") 1 [] AtEnd a.0.read s a.0.gives) c.finish.ensures.fits
+    (kept_beside declare p (codes "RISKS") 2 [] AtEnd a.0.read s a.0.gives) c.finish.ensures.fits

@@ -7,6 +7,6 @@ pub returns : goal.returns
 returns g c =
     let a = c.args in
     any_from_yields_List
-    (λ (k : Cut g.row.A.Denot). is_worse_than (stray_in a.plan.now a.other.now a.others.now k) k) _ _ _
+    (λ (k : Cut). is_worse_than (stray_in a.plan.now a.other.now a.others.now k) k) _ _ _
     c.any.ensures.ran (YieldsList-from_slice a.mine.now cc)
     (λ x b q k. search (rules, tests))

@@ -4,7 +4,7 @@ use Rattle.tx_risk.proofs.Comparing.{parted, told_at, stray_at_point}
 use Rattle.tx_risk.proofs.side.stray_at.Goals as goal
 
 pub returns-in-Some : goal.returns-in-Some
-returns-in-Some g c =
+returns-in-Some c =
     let cuts = c.args.cuts.now in let code = c.args.code in let x = c.args.start in
     let place = c.partition_point-place.result in
     let point = IsPartitionPoint-from_clause (comes_before code x) cuts place
@@ -16,7 +16,7 @@ returns-in-Some g c =
     (λ d a. point.1 place d (omega arith) a)
 
 pub returns-in-None : goal.returns-in-None
-returns-in-None g c =
+returns-in-None c =
     let cuts = c.args.cuts.now in let code = c.args.code in let x = c.args.start in
     let place = c.partition_point-place.result in
     let point = IsPartitionPoint-from_clause (comes_before code x) cuts place

@@ -1,8 +1,5 @@
-use Rattle.tx_risk_report.proofs.Common.{◌∙◌, sym, puts_none, puts_then}
+use Rattle.tx_risk_report.proofs.Common.{◌∙◌, sym, puts_then}
 use Rattle.tx_risk_report.proofs.comparison.write_compared_total.Goals as goal
-
-pub returns-then-is_free : goal.returns-then-is_free
-returns-then-is_free g c = rw (sym c.is_free.ensures ∙ c.if-is_free.true) puts_none
 
 pub returns : goal.returns
 returns g c =

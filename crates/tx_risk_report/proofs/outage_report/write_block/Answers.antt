@@ -1,10 +1,6 @@
-use Rattle.tx_risk_report.proofs.Common.{◌∙◌, sym, puts_none, puts_then}
+use Rattle.tx_risk_report.proofs.Common.{◌∙◌, sym, puts_then}
 use Rattle.tx_risk_report.proofs.outage_report.write_block.Goals as goal
-
-pub returns-then-is_harmless : goal.returns-then-is_harmless
-returns-then-is_harmless g c =
-    rw (sym c.is_harmless.ensures ∙ c.if-is_harmless.true) puts_none
 
 pub returns : goal.returns
 returns g c =
-    rw (sym c.is_harmless.ensures ∙ c.if-is_harmless.false) (puts_then c.write_outage.ensures (puts_then c.put_bytes.ensures (rw c.deref.ensures.value at c.write_cuts.ensures)))
+    rw (sym c.is_harmless.ensures ∙ c.if-is_harmless.false) (puts_then c.write_outage.ensures (puts_then c.put_bytes.ensures (rw (c.deref.ensures.value, c.deref-2.ensures.value) at c.write_cuts.ensures)))

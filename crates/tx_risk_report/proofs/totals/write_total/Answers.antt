@@ -1,9 +1,5 @@
-use Rattle.tx_risk_report.proofs.Common.{◌∙◌, sym, puts_none, puts_then}
+use Rattle.tx_risk_report.proofs.Common.{◌∙◌, sym, puts_then}
 use Rattle.tx_risk_report.proofs.totals.write_total.Goals as goal
-
-pub returns-then-is_harmless : goal.returns-then-is_harmless
-returns-then-is_harmless g c =
-    rw (sym c.is_harmless.ensures ∙ c.if-is_harmless.true) puts_none
 
 pub returns : goal.returns
 returns g c =

@@ -1,10 +1,7 @@
-use Rattle.tx_trace.proofs.Common.{ℕ, arith, enumerate_from, puts_none, puts_more, puts_all, place_line, rank_told}
+use Rattle.tx_trace.proofs.Common.{ℕ, arith, enumerate_from, puts_more, puts_all, place_line, rank_told}
 use Rattle.std.proofs.lemmas.List.FromFn.{length-enumerate_from}
 use Rattle.tx_trace.proofs.Texts.{numbered}
 use Rattle.tx_trace.proofs.trace_text.write_list.Goals as goal
-
-pub loop-i-init : goal.loop-i-init
-loop-i-init g c = puts_none
 
 pub loop-i-preserved : goal.loop-i-preserved
 loop-i-preserved g c =

@@ -1,9 +1,6 @@
-use Rattle.tx_trace.proofs.Common.{puts_none, puts_more, puts_all, puts_is, calls_of, change_of}
+use Rattle.tx_trace.proofs.Common.{puts_more, puts_all, puts_is, calls_of, change_of}
 use Rattle.tx_trace.proofs.Changing.{flat_map-map}
 use Rattle.tx_trace.proofs.way_changes_text.write_changes.Goals as goal
-
-pub loop-i-init : goal.loop-i-init
-loop-i-init g c = puts_none
 
 pub loop-i-preserved : goal.loop-i-preserved
 loop-i-preserved g c =

@@ -52,24 +52,16 @@ loop-number-preserved g c =
       few = omega (arith, i.few, e.few);
     }
 
-pub returns-clause-sound : goal.returns-clause-sound
-returns-clause-sound g c = c.loop-number.invariant.sound
-
-pub returns-clause-plan : goal.returns-clause-plan
-returns-clause-plan g c = c.loop-number.invariant.plan
-
-pub returns-clause-losing : goal.returns-clause-losing
-returns-clause-losing g c = c.loop-number.invariant.losing
-
-pub returns-clause-none : goal.returns-clause-none
-returns-clause-none g c =
+pub returns : goal.returns
+returns g c =
     let n = c.args.self.now in
     let m = c.loop-number.self in
     let over = c.loop-number-test.false in
-    none_left c.args.group (calls_in n.calls) (calls_in m.calls) (subst (AreLeft c.args.group (calls_in n.calls) (calls_in m.calls)) (drop_all c.loop-number.number-index c.args.numbers.now (omega arith)) c.loop-number.invariant.left)
-
-pub returns-clause-failed : goal.returns-clause-failed
-returns-clause-failed g c = c.loop-number.invariant.failed
-
-pub returns-clause-events : goal.returns-clause-events
-returns-clause-events g c = c.loop-number.invariant.events
+    record {
+      sound = c.loop-number.invariant.sound;
+      plan = c.loop-number.invariant.plan;
+      losing = c.loop-number.invariant.losing;
+      none = none_left c.args.group (calls_in n.calls) (calls_in m.calls) (subst (AreLeft c.args.group (calls_in n.calls) (calls_in m.calls)) (drop_all c.loop-number.number-index c.args.numbers.now (omega arith)) c.loop-number.invariant.left);
+      failed = c.loop-number.invariant.failed;
+      events = c.loop-number.invariant.events;
+    }

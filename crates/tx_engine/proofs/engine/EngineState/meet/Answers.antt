@@ -29,8 +29,8 @@ throw_back-requires-clause-meeting g c =
     let d = mt.0 in
     (k, d, mt.1)
 
-pub end_collided-requires-clause-events : goal.end_collided-requires-clause-events
-end_collided-requires-clause-events g c =
+pub end_collided-requires : goal.end_collided-requires
+end_collided-requires g c =
     let n = c.args.self.now in
     let x = c.args.circuit.now in
     let q = c.requires.calls in
@@ -41,47 +41,13 @@ end_collided-requires-clause-events g c =
     let other = c.met-other.ensures d mt.1.two in
     let th = c.throw_back.ensures.kept k d mt.1 in
     let now = c.throw_back.ensures.state k d mt.1 in
-    subst (λ (z : State). z.events < 2 ^ 64 - 1) (sym now) c.requires.events
-
-pub end_collided-requires-clause-differ : goal.end_collided-requires-clause-differ
-end_collided-requires-clause-differ g c =
-    let n = c.args.self.now in
-    let x = c.args.circuit.now in
-    let q = c.requires.calls in
-    let k = q.0 in
-    let mt = meeting n c.requires.sound c.args.number c.args.key x k q.1 q.2 c.args.far q.3 c.requires.met c.get-other_key.result (c.get-other_key.ensures ∙ ap (λ z. pick z (keys_of n.keys x)) (c.eq.ensures ∙ ap (λ (z : ℕ × ℕ). z.0 == c.args.far) c.ends-first.ensures)) in
-    let d = mt.0 in
-    let one = c.met-one.ensures k q.1.kept in
-    let other = c.met-other.ensures d mt.1.two in
-    λ e. keys_differ n c.requires.sound c.args.key c.get-other_key.result x k d mt.1 (sym (ap (λ (z : Met). z.key) other) ∙ e ∙ ap (λ (z : Met). z.key) one)
-
-pub end_collided-requires-clause-one : goal.end_collided-requires-clause-one
-end_collided-requires-clause-one g c =
-    let n = c.args.self.now in
-    let x = c.args.circuit.now in
-    let q = c.requires.calls in
-    let k = q.0 in
-    let mt = meeting n c.requires.sound c.args.number c.args.key x k q.1 q.2 c.args.far q.3 c.requires.met c.get-other_key.result (c.get-other_key.ensures ∙ ap (λ z. pick z (keys_of n.keys x)) (c.eq.ensures ∙ ap (λ (z : ℕ × ℕ). z.0 == c.args.far) c.ends-first.ensures)) in
-    let d = mt.0 in
-    let one = c.met-one.ensures k q.1.kept in
-    let other = c.met-other.ensures d mt.1.two in
-    let th = c.throw_back.ensures.kept k d mt.1 in
-    let now = c.throw_back.ensures.state k d mt.1 in
-    (_, ap (kept_at c.throw_back.new.self.calls) (ap (λ (z : Met). z.key) one) ∙ th.one, sym (ap (λ (z : Met). z.number) one))
-
-pub end_collided-requires-clause-other : goal.end_collided-requires-clause-other
-end_collided-requires-clause-other g c =
-    let n = c.args.self.now in
-    let x = c.args.circuit.now in
-    let q = c.requires.calls in
-    let k = q.0 in
-    let mt = meeting n c.requires.sound c.args.number c.args.key x k q.1 q.2 c.args.far q.3 c.requires.met c.get-other_key.result (c.get-other_key.ensures ∙ ap (λ z. pick z (keys_of n.keys x)) (c.eq.ensures ∙ ap (λ (z : ℕ × ℕ). z.0 == c.args.far) c.ends-first.ensures)) in
-    let d = mt.0 in
-    let one = c.met-one.ensures k q.1.kept in
-    let other = c.met-other.ensures d mt.1.two in
-    let th = c.throw_back.ensures.kept k d mt.1 in
-    let now = c.throw_back.ensures.state k d mt.1 in
-    (_, ap (kept_at c.throw_back.new.self.calls) (ap (λ (z : Met). z.key) other) ∙ th.two, sym (ap (λ (z : Met). z.number) other))
+    record {
+      sound = c.throw_back.ensures.sound;
+      events = subst (λ (z : State). z.events < 2 ^ 64 - 1) (sym now) c.requires.events;
+      differ = λ e. keys_differ n c.requires.sound c.args.key c.get-other_key.result x k d mt.1 (sym (ap (λ (z : Met). z.key) other) ∙ e ∙ ap (λ (z : Met). z.key) one);
+      one = (_, ap (kept_at c.throw_back.new.self.calls) (ap (λ (z : Met). z.key) one) ∙ th.one, sym (ap (λ (z : Met). z.number) one));
+      other = (_, ap (kept_at c.throw_back.new.self.calls) (ap (λ (z : Met). z.key) other) ∙ th.two, sym (ap (λ (z : Met). z.number) other));
+    }
 
 pub returns-clause-step : goal.returns-clause-step
 returns-clause-step g c =

@@ -14,29 +14,17 @@ returns-in_err-reserve_hop-clause-sound g c =
     let h = c.reserve_hop.ensures.changes k d.kept in
     sound_hop n.plan.now n.codes n.calls n.keys n.lines n.circuits n.numbers (deque_len n.tickets) (deque_capacity n.tickets) c.requires.sound c.args.key k d.kept c.reserve_hop.new.self h.0 h.1 c.reserve_hop.ensures.calls h.2
 
-pub seize-requires-clause-known : goal.seize-requires-clause-known
-seize-requires-clause-known g c =
+pub seize-requires : goal.seize-requires
+seize-requires g c =
     let n = c.args.self.now in
     let k = c.requires.decided.0 in
     let d = c.requires.decided.1 in
     let x = c.args.circuit.now in
-    known n c.requires.sound c.args.key k x c.exchange_of-here.result (stands_there n.plan.now n.calls c.args.key c.exchange_of-here.result k _ d.kept c.at.ensures c.exchange_of-here.ensures) d
-
-pub seize-requires-clause-may : goal.seize-requires-clause-may
-seize-requires-clause-may g c =
-    let n = c.args.self.now in
-    let k = c.requires.decided.0 in
-    let d = c.requires.decided.1 in
-    let x = c.args.circuit.now in
-    may n c.requires.sound c.args.key k x c.exchange_of-here.result (stands_there n.plan.now n.calls c.args.key c.exchange_of-here.result k _ d.kept c.at.ensures c.exchange_of-here.ensures) d
-
-pub seize-requires-clause-free : goal.seize-requires-clause-free
-seize-requires-clause-free g c =
-    let n = c.args.self.now in
-    let k = c.requires.decided.0 in
-    let d = c.requires.decided.1 in
-    let x = c.args.circuit.now in
-    free n c.requires.sound c.args.key k x c.exchange_of-here.result (stands_there n.plan.now n.calls c.args.key c.exchange_of-here.result k _ d.kept c.at.ensures c.exchange_of-here.ensures) d
+    record {
+      known = known n c.requires.sound c.args.key k x c.exchange_of-here.result (stands_there n.plan.now n.calls c.args.key c.exchange_of-here.result k _ d.kept c.at.ensures c.exchange_of-here.ensures) d;
+      may = may n c.requires.sound c.args.key k x c.exchange_of-here.result (stands_there n.plan.now n.calls c.args.key c.exchange_of-here.result k _ d.kept c.at.ensures c.exchange_of-here.ensures) d;
+      free = free n c.requires.sound c.args.key k x c.exchange_of-here.result (stands_there n.plan.now n.calls c.args.key c.exchange_of-here.result k _ d.kept c.at.ensures c.exchange_of-here.ensures) d;
+    }
 
 pub set-requires : goal.set-requires
 set-requires g c =

@@ -1,6 +1,6 @@
-use mir.Val.{bool_byte}
-use Rattle.tx_requests.proofs.Common.{◌≡◌, ◌∙◌, Bool, true, false, refl, if◌then◌else◌}
+use Rattle.tx_requests.proofs.Common.{◌∙◌}
 use Rattle.tx_requests.proofs.Comparing.{outlook_in_order}
+use Rattle.tx_requests.proofs.Surviving.{as_byte}
 use Rattle.tx_requests.proofs.compare.CompareRequestRequest.end.Goals as goal
 
 pub comparison_of-comparison-requires-clause-new : goal.comparison_of-comparison-requires-clause-new
@@ -8,10 +8,6 @@ comparison_of-comparison-requires-clause-new g c = outlook_in_order _ _ _ _ _ c.
 
 pub comparison_of-comparison-requires-clause-old : goal.comparison_of-comparison-requires-clause-old
 comparison_of-comparison-requires-clause-old g c = outlook_in_order _ _ _ _ _ c.requires.2.old
-
-as_byte : (b : Bool) → bool_byte b ≡ (if b then 1 else 0)
-as_byte true = refl
-as_byte false = refl
 
 pub returns : goal.returns
 returns g c =

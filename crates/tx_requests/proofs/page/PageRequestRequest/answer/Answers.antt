@@ -10,6 +10,12 @@ or_memory (inr c) = inr (inr c)
 pub found_of-requires : goal.found_of-requires
 found_of-requires g c = c.requires.risks
 
+pub change_of-requires-clause-risks : goal.change_of-requires-clause-risks
+change_of-requires-clause-risks g c = c.requires.risks
+
+pub change_of-requires-clause-found : goal.change_of-requires-clause-found
+change_of-requires-clause-found g c = c.in_ok-found.ensures
+
 pub returns : goal.returns
 returns g c = record {
   texts = refl;

@@ -1,6 +1,6 @@
 use Rattle.std.specs.Prelude.{option_map}
 use Rattle.tx_requests.proofs.Common.{inr, refl, exits_with, memory_stop}
-use Rattle.tx_requests.proofs.Asking.{asked_known}
+use Rattle.tx_files.proofs.Asking.{asked_known}
 use Rattle.tx_requests.proofs.trace.TraceRequestRequest.answer.Goals as goal
 
 pub returns : goal.returns

@@ -11,6 +11,6 @@ returns-clause-ok g c =
     let absent = any_risk name rows
     ∙ ap (list_any (λ (r : NamedRisk). bytes_eq name r.name)) c.self.view_is ∙ c.requires in
     ap (map risk_of_row) (c.in_ok-insert.ensures.entries
-    ∙ entry_last bytes_eq c.self.inside.rows rows name c.args.groups refl absent)
-    ∙ map_push risk_of_row rows (name, c.args.groups)
-    ∙ ap (λ (rs : List NamedRisk). rs ++ risk_of_row (name, c.args.groups) ∷ []) c.self.view_is
+    ∙ entry_last bytes_eq c.self.inside.rows rows name c.args.row refl absent)
+    ∙ map_push risk_of_row rows (name, c.args.row)
+    ∙ ap (λ (rs : List NamedRisk). rs ++ risk_of_row (name, c.args.row) ∷ []) c.self.view_is

@@ -19,11 +19,12 @@ loop-index-preserved g c =
     let low : i < length self = let t = c.loop-index-test.true in
     let a = c.loop-index.auto.index-end in let e = c.len-index-end.ensures.count in omega arith in
     let groups = c.in_ok-groups.groups.items in
-    risks_next c.args.plan.now c.args.other.now self c.loop-index.risks _ i groups low c.loop-index.invariant
+    risks_next c.args.plan.now c.args.other.now self c.loop-index.risks _ i groups _ low c.loop-index.invariant
     (c.in_ok-groups.ensures
     ∙ ap (filter_map (λ k. group_named c.args.other.now (group_name c.args.plan.now k))) c.groups.ensures)
+    c.has_unknown-unknown.ensures
     (c.in_ok-add.ensures.ok
-    ∙ ap (λ n. c.loop-index.risks ++ record { name = n; groups = groups } ∷ [])
+    ∙ ap (λ n. c.loop-index.risks ++ record { name = n; groups = groups; unknown = c.has_unknown-unknown.result } ∷ [])
     (c.new-name.ensures ∙ c.name.ensures))
 
 pub returns-clause-within : goal.returns-clause-within

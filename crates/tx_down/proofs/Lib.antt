@@ -1,0 +1,5 @@
+mod Taking
+mod Over
+mod Rules
+mod NextRoute
+pub mod Common

@@ -1,5 +1,0 @@
-use Rattle.tx_page.proofs.Common.{◌≡◌, ◌≤◌, ◌*◌, take, sum_by, range_lines}
-use Rattle.tx_page.proofs.counts.count_lines.Given as goal
-
-abbrev pub invariant-loop-index : goal.invariant-loop-index
-invariant-loop-index g l = (l.count ≡ sum_by range_lines (take l.index l.plan.ranges)) × (l.count ≤ l.index * 1000000000)

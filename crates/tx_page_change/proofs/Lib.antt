@@ -1,0 +1,4 @@
+pub mod AloneIn
+pub mod AnyBelow
+pub mod Common
+pub mod Texts

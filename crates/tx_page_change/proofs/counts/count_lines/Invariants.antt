@@ -1,0 +1,5 @@
+use Rattle.tx_page_change.proofs.Common.{◌≡◌, ◌≤◌, ◌*◌, take, sum_by, range_lines}
+use Rattle.tx_page_change.proofs.counts.count_lines.Given as goal
+
+abbrev pub invariant-loop-index : goal.invariant-loop-index
+invariant-loop-index g l = (l.count ≡ sum_by range_lines (take l.index l.plan.ranges)) × (l.count ≤ l.index * 1000000000)

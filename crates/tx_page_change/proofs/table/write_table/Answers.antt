@@ -1,0 +1,6 @@
+use Rattle.tx_html.proofs.Showing.{sets_then, sets_end}
+use Rattle.tx_page_change.proofs.table.write_table.Goals as goal
+
+pub returns : goal.returns
+returns g c =
+    sets_then c.write_title.ensures (sets_then c.set.ensures (sets_end c.write_rows.ensures c.set-2.ensures))

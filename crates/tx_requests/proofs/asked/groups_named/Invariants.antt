@@ -1,9 +1,0 @@
-use Rattle.std.proofs.Common.{◌≡◌, length, drop}
-use Rattle.tx_requests.specs.Asked.{names_in, groups_named}
-use Rattle.tx_requests.proofs.Asking.{behind}
-use Rattle.tx_requests.proofs.asked.groups_named.Given as goal
-
-abbrev pub invariant-loop-name : goal.invariant-loop-name
-invariant-loop-name g l =
-    groups_named l.plan (names_in l.word)
-    ≡ behind l.groups.items (groups_named l.plan (drop (length l.yielded) (names_in l.word)))

@@ -1,6 +1,0 @@
-use Rattle.tx_html.proofs.Showing.{sets_then, sets_end}
-use Rattle.tx_svg.proofs.arrows.write_layer.Goals as goal
-
-pub returns : goal.returns
-returns g c =
-    sets_then c.set.ensures (sets_end c.write_lists.ensures c.set-2.ensures)
